@@ -1,0 +1,4 @@
+pub mod Tests
+pub mod Sums
+pub mod Hits
+pub mod Places

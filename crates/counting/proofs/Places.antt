@@ -1,0 +1,59 @@
+-- Laws of what stands at a place of a list, if anything does.
+use mathlib.Core.Path.{_≡_, refl, sym, ap, _∙_}
+use mathlib.Core.List.{List, [], _∷_, _++_, map, List·Memᴰ, List·Memᴰ·head as here, List·Memᴰ·tail as there}
+use mathlib.Core.Option.{Option, none, some}
+use Prim.Native.Nat.{ℕ, zero, suc, _+_, _≤_, _<_}
+use native.Mathlib.Omega.{arith}
+use native.Mathlib.Nat.{not-suc-le-zero, le-of-suc-le-suc}
+use lib.ListN.{length, getD, take, getElem?}
+
+module _ {A : Type 0} where
+  pub some-same : {a b : A} → some a ≡ some b → a ≡ b
+  some-same p = cc
+
+  pub none-not-some : {a : A} → none ≡ some a → ⊥
+  none-not-some p = let z : _≡_ {A = ℕ} 0 1 = cc in omega arith
+
+  pub at-below : (xs : List A) (i : ℕ) {x : A} → getElem? xs i ≡ some x → i < length xs
+  at-below [] i e = absurd (none-not-some e)
+  at-below (y ∷ ys) zero e = omega arith
+  at-below (y ∷ ys) (suc i) e = omega (arith, at-below ys i e)
+
+  pub at-getD : (xs : List A) (i : ℕ) (d : A) → i < length xs → getElem? xs i ≡ some (getD xs i d)
+  at-getD [] i d h = absurd (not-suc-le-zero h)
+  at-getD (y ∷ ys) zero d h = refl
+  at-getD (y ∷ ys) (suc i) d h = at-getD ys i d (le-of-suc-le-suc h)
+
+  pub at-none : (xs : List A) (i : ℕ) → length xs ≤ i → getElem? xs i ≡ none
+  at-none [] i h = refl
+  at-none (y ∷ ys) zero h = absurd (not-suc-le-zero h)
+  at-none (y ∷ ys) (suc i) h = at-none ys i (le-of-suc-le-suc h)
+
+  pub at-mem : (xs : List A) (i : ℕ) {x : A} → getElem? xs i ≡ some x → List·Memᴰ x xs
+  at-mem [] i e = absurd (none-not-some e)
+  at-mem (y ∷ ys) zero e = here (sym (some-same e))
+  at-mem (y ∷ ys) (suc i) e = there (at-mem ys i e)
+
+  pub mem-at : {xs : List A} {x : A} → List·Memᴰ x xs → (i : ℕ) × (getElem? xs i ≡ some x)
+  mem-at (here e) = (0, ap {B = Option A} some (sym e))
+  mem-at (there m) = let r = mem-at m in (suc (r .0), r .1)
+
+  pub at-take : (xs : List A) (n i : ℕ) → i < n → getElem? (take n xs) i ≡ getElem? xs i
+  at-take xs zero i h = absurd (not-suc-le-zero h)
+  at-take [] (suc n) i h = refl
+  at-take (x ∷ xs) (suc n) zero h = refl
+  at-take (x ∷ xs) (suc n) (suc i) h = at-take xs n i (le-of-suc-le-suc h)
+
+  pub at-append-left : (xs ys : List A) (i : ℕ) → i < length xs → getElem? (xs ++ ys) i ≡ getElem? xs i
+  at-append-left [] ys i h = absurd (not-suc-le-zero h)
+  at-append-left (x ∷ xs) ys zero h = refl
+  at-append-left (x ∷ xs) ys (suc i) h = at-append-left xs ys i (le-of-suc-le-suc h)
+
+  pub at-append-seam : (xs : List A) (y : A) (ys : List A) → getElem? (xs ++ y ∷ ys) (length xs) ≡ some y
+  at-append-seam [] y ys = refl
+  at-append-seam (x ∷ xs) y ys = at-append-seam xs y ys
+
+pub at-map : {A B : Type 0} (f : A → B) (xs : List A) (i : ℕ) {x : A} → getElem? xs i ≡ some x → getElem? (map f xs) i ≡ some (f x)
+at-map f [] i e = absurd (none-not-some e)
+at-map {B = B} f (y ∷ ys) zero e = ap {B = Option B} (λ z. some (f z)) (some-same e)
+at-map f (y ∷ ys) (suc i) e = at-map f ys i e

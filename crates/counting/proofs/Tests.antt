@@ -1,0 +1,79 @@
+-- Laws of tests: of two tests, of one over a list, and of `pick`.
+use mathlib.Core.Path.{_≡_, refl, sym, _∙_}
+use mathlib.Core.Bool.{Bool, true, false, _&&_, _||_, or-true, or-false, or-assoc, false≢true, true≢false}
+use mathlib.Core.List.{List, [], _∷_, _++_, List·Memᴰ, List·Memᴰ·head as here, List·Memᴰ·tail as there}
+use Prim.Native.Nat.{ℕ, suc, _<_}
+use lib.ListN.{length, getD, take}
+use lib.Seq.{take-suc}
+use Rattle.counting.specs.Count.{anyOf}
+
+-- a test that is true and false proves anything
+pub never-both : (b : Bool) → b ≡ true → b ≡ false → ⊥
+never-both b p q = true≢false (sym p ∙ q)
+
+pub false-of-not-true : (b : Bool) → (b ≡ true → ⊥) → b ≡ false
+false-of-not-true true h = absurd (h refl)
+false-of-not-true false h = refl
+
+pub true-of-not-false : (b : Bool) → (b ≡ false → ⊥) → b ≡ true
+true-of-not-false true h = refl
+true-of-not-false false h = absurd (h refl)
+
+pub same-of-iff : (a b : Bool) → (a ≡ true → b ≡ true) → (b ≡ true → a ≡ true) → a ≡ b
+same-of-iff true b f g = sym (f refl)
+same-of-iff false true f g = g refl
+same-of-iff false false f g = refl
+
+pub and-left : (a b : Bool) → (a && b) ≡ true → a ≡ true
+and-left true b e = refl
+and-left false b e = e
+
+pub and-right : (a b : Bool) → (a && b) ≡ true → b ≡ true
+and-right true b e = e
+and-right false b e = absurd (false≢true e)
+
+pub and-intro : (a b : Bool) → a ≡ true → b ≡ true → (a && b) ≡ true
+and-intro true b p q = q
+and-intro false b p q = p
+
+pub or-false-left : (a b : Bool) → (a || b) ≡ false → a ≡ false
+or-false-left true b e = e
+or-false-left false b e = refl
+
+pub or-false-right : (a b : Bool) → (a || b) ≡ false → b ≡ false
+or-false-right true b e = absurd (true≢false e)
+or-false-right false b e = e
+
+module _ {A : Type 0} where
+  pub any-mem : (f : A → Bool) {x : A} {xs : List A} → List·Memᴰ x xs → f x ≡ true → anyOf f xs ≡ true
+  any-mem f (here p) e = rw (← p, e)
+  any-mem f (there m) e = rw (any-mem f m e, or-true)
+
+  pub any-true : (f : A → Bool) (xs : List A) → anyOf f xs ≡ true → (x : A) × List·Memᴰ x xs × (f x ≡ true)
+  any-true f [] e = absurd (false≢true e)
+  any-true f (x ∷ xs) e = go (f x) refl e (any-true f xs)
+    where
+      go : (b : Bool) → f x ≡ b → (b || anyOf f xs) ≡ true → (anyOf f xs ≡ true → (y : A) × List·Memᴰ y xs × (f y ≡ true)) → (y : A) × List·Memᴰ y (x ∷ xs) × (f y ≡ true)
+      go true q e r = (x, here refl, q)
+      go false q e r = let t = r e in (t .0, there (t .1), t .2)
+
+  pub any-false : (f : A → Bool) (xs : List A) → ((x : A) → List·Memᴰ x xs → f x ≡ false) → anyOf f xs ≡ false
+  any-false f xs h = false-of-not-true (anyOf f xs) (λ e. let t = any-true f xs e in never-both (f (t .0)) (t .2) (h (t .0) (t .1)))
+
+  pub any-append : (f : A → Bool) (xs ys : List A) → anyOf f (xs ++ ys) ≡ (anyOf f xs || anyOf f ys)
+  any-append f [] ys = refl
+  any-append f (x ∷ xs) ys = rw (any-append f xs ys, or-assoc)
+
+  -- one more element looked at
+  pub any-take-suc : (f : A → Bool) (xs : List A) (i : ℕ) (d : A) → i < length xs → anyOf f (take (suc i) xs) ≡ (anyOf f (take i xs) || f (getD xs i d))
+  any-take-suc f xs i d l = rw (take-suc xs i d, any-append, or-false)
+
+module _ {A B : Type 0} where
+  any-turn : (f : A → B → Bool) (xs : List A) (ys : List B) → anyOf (λ x. anyOf (f x) ys) xs ≡ true → anyOf (λ y. anyOf (λ x. f x y) xs) ys ≡ true
+  any-turn f xs ys e =
+      let x = any-true (λ x. anyOf (f x) ys) xs e in
+      let y = any-true (f (x .0)) ys (x .2) in
+      any-mem (λ y. anyOf (λ x. f x y) xs) (y .1) (any-mem (λ z. f z (y .0)) (x .1) (y .2))
+
+pub any-swap : {A B : Type 0} (f : A → B → Bool) (xs : List A) (ys : List B) → anyOf (λ x. anyOf (f x) ys) xs ≡ anyOf (λ y. anyOf (λ x. f x y) xs) ys
+any-swap f xs ys = same-of-iff _ _ (any-turn f xs ys) (any-turn (λ y x. f x y) ys xs)

@@ -1,0 +1,1 @@
+// Lists and counting: definitions in specs/, laws in proofs/. No code.

@@ -1,0 +1,59 @@
+-- Document 01, "Refusals and their order", what follows on tables; and the one answer from bytes.
+use mathlib.Core.List.{List, [], _∷_}
+use mathlib.Core.Option.{Option}
+use Prim.Native.Nat.{ℕ, suc}
+use lib.Dec.{eqb, leb}
+use lib.ListN.{length}
+use lib.IntN.{ℤ}
+use Rattle.rules.specs.Sizes.{startMost}
+use Rattle.rules.specs.Network.{Job, paths}
+use Rattle.rules.specs.Outcome.{Outcome, is, refused, Verdict, fine, must, _then_, onward}
+use Rattle.rules.specs.Tables.{tables}
+use Rattle.rules.specs.Claims.{Claim, claims, Placed, place}
+use Rattle.rules.specs.Greedy.{greedy}
+use Rattle.rules.specs.Check.{Clash, clashAfter}
+use Rattle.rules.specs.Lead.{lead}
+use Rattle.rules.specs.Bytes.{letterR, lineText}
+use Rattle.rules.specs.JobText.{reading}
+use Rattle.rules.specs.PlanText.{planText}
+
+-- 12 at the lowest packet, counted from k, whose start is too late
+unfoldable pub startsVerdict : ℕ → List ℕ → Verdict
+startsVerdict k [] = fine
+startsVerdict k (s ∷ ss) = must (leb s startMost) 12 k then startsVerdict (suc k) ss
+
+-- a job with starts made elsewhere: tables, 11, 12
+unfoldable pub startedVerdict : Job → List ℕ → Verdict
+startedVerdict j starts = tables j then must (eqb (length starts) (length (j .sources))) 11 0 then startsVerdict 0 starts
+
+-- packets with their starts
+unfoldable pub placed : List ℕ → List (List Claim) → List Placed
+placed [] rest = []
+placed (s ∷ ss) [] = []
+placed (s ∷ ss) (cs ∷ rest) = place s cs ∷ placed ss rest
+
+-- the planner, with room for so many starts
+unfoldable pub planned : Job → ℕ → Outcome (List ℕ)
+planned j room = tables j then must (leb (length (j .sources)) room) 10 0 then is (greedy j)
+
+-- the check
+unfoldable pub checked : Job → List ℕ → Outcome (Option Clash)
+checked j starts = startedVerdict j starts then is (clashAfter [] (placed starts (claims j)))
+
+-- the lead of packet a over packet b on a link
+unfoldable pub led : Job → List ℕ → ℕ → ℕ → ℕ → Outcome ℤ
+led j starts a b link = startedVerdict j starts then lead starts (paths j) a b link
+
+-- the text writer, with room for so many bytes
+unfoldable pub written : Job → List ℕ → ℕ → Outcome (List ℕ)
+written j starts room =
+    startedVerdict j starts then must (leb (length (planText j starts)) room) 10 0 then is (planText j starts)
+
+-- from a job's bytes: its plan's bytes, or the refusal
+unfoldable pub answer : List ℕ → Outcome (List ℕ)
+answer text = onward (reading text) (λ j. is (planText j (greedy j)))
+
+-- what `plan` prints
+unfoldable pub printed : Outcome (List ℕ) → List ℕ
+printed (is text) = text
+printed (refused number place) = lineText letterR (number ∷ place ∷ [])

@@ -1,0 +1,48 @@
+-- Document 01, "The network and its steps": ends, routing time, C, D and meetings. All over paths, none over claims.
+use mathlib.Core.Bool.{Bool, _&&_}
+use mathlib.Core.List.{List, [], _∷_, _++_}
+use Prim.Native.Nat.{ℕ, _+_, max}
+use lib.ListN.{length}
+use Rattle.counting.specs.Count.{bit, among, sumOf, maxOf, hits, maxBelow}
+use Rattle.rules.specs.Network.{Job, paths}
+
+-- the end of a packet: its start and its hops
+unfoldable pub endOf : ℕ → List ℕ → ℕ
+endOf start path = start + length path
+
+-- the greatest end
+unfoldable pub routingTime : List ℕ → List (List ℕ) → ℕ
+routingTime [] ps = 0
+routingTime (s ∷ ss) [] = 0
+routingTime (s ∷ ss) (p ∷ ps) = max (endOf s p) (routingTime ss ps)
+
+-- how many of the paths have the link
+unfoldable pub load : ℕ → List (List ℕ) → ℕ
+load link ps = sumOf (λ p. bit (among link p)) ps
+
+abbrev pub linkCount : Job → ℕ
+linkCount j = length (j .network .origins)
+
+-- C
+unfoldable pub congestion : Job → ℕ
+congestion j = maxBelow (λ link. load link (paths j)) (linkCount j)
+
+-- D
+unfoldable pub dilation : Job → ℕ
+dilation j = maxOf (λ p. length p) (paths j)
+
+-- the links below n that are on both paths
+unfoldable pub shared : ℕ → List ℕ → List ℕ → ℕ
+shared n p q = hits (λ link. among link p && among link q) n
+
+-- pairs of a packet listed before and a link on both paths
+unfoldable pub meetingsWith : ℕ → List (List ℕ) → List ℕ → ℕ
+meetingsWith n before p = sumOf (λ q. shared n p q) before
+
+unfoldable pub meetingsAfter : ℕ → List (List ℕ) → List (List ℕ) → List ℕ
+meetingsAfter n before [] = []
+meetingsAfter n before (p ∷ ps) = meetingsWith n before p ∷ meetingsAfter n (before ++ (p ∷ [])) ps
+
+-- the meetings of each packet of a job, in order
+unfoldable pub meetings : Job → List ℕ
+meetings j = meetingsAfter (linkCount j) [] (paths j)

@@ -1,0 +1,35 @@
+-- Document 01, "The network and its steps", lead: the entry step of one packet less that of another, an integer.
+use mathlib.Core.Bool.{not}
+use mathlib.Core.List.{List, [], _∷_}
+use mathlib.Core.Option.{Option, none, some}
+use Prim.Native.Nat.{ℕ, _+_}
+use lib.Dec.{eqb}
+use lib.ListN.{getElem?}
+use lib.IntN.{ℤ, pos, _-ℤ_}
+use Rattle.counting.specs.Count.{pick}
+use Rattle.rules.specs.Outcome.{Outcome, is, refused, must, _then_}
+use Rattle.rules.specs.Claims.{Claim, linkClaims}
+
+-- the step in which a packet with start s takes the resource, if it claims it
+unfoldable pub entryStep : ℕ → ℕ → List Claim → Option ℕ
+entryStep resource s [] = none
+entryStep resource s (c ∷ cs) = pick (eqb (c .resource) resource) (some (s + c .offset)) (entryStep resource s cs)
+
+-- 13 where one of the two does not enter
+abbrev pub leadOf : Option ℕ → Option ℕ → Outcome ℤ
+leadOf none y = refused 13 0
+leadOf (some x) none = refused 13 0
+leadOf (some x) (some y) = is (pos x -ℤ pos y)
+
+abbrev pub entryOf : ℕ → Option ℕ → Option (List ℕ) → Option ℕ
+entryOf link none path = none
+entryOf link (some s) none = none
+entryOf link (some s) (some path) = entryStep link s (linkClaims 0 path)
+
+-- packet k's entry step on the link, if there is such a packet and the link is on its path
+unfoldable pub entryAt : List ℕ → List (List ℕ) → ℕ → ℕ → Option ℕ
+entryAt starts ps link k = entryOf link (getElem? starts k) (getElem? ps k)
+
+-- packet a's entry step on the link less packet b's
+unfoldable pub lead : List ℕ → List (List ℕ) → ℕ → ℕ → ℕ → Outcome ℤ
+lead starts ps a b link = must (not (eqb a b)) 13 0 then leadOf (entryAt starts ps link a) (entryAt starts ps link b)

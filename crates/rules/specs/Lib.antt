@@ -1,0 +1,15 @@
+pub mod Sizes
+pub mod Network
+pub mod Path
+pub mod Outcome
+pub mod Tables
+pub mod Claims
+pub mod Greedy
+pub mod Counts
+pub mod Check
+pub mod Lead
+pub mod Bytes
+pub mod JobText
+pub mod PlanText
+pub mod Answers
+pub mod Plain

@@ -1,0 +1,41 @@
+-- Document 01, "The network and its steps": nodes, links, packets. A job is held as the lists of "Refusals and their
+-- order", Tables: links by their origins and ends, packets by their sources and by where each path stops in the list of hops.
+use mathlib.Core.List.{List, [], _∷_}
+use mathlib.Core.Option.{Option, none, some}
+use Prim.Native.Nat.{ℕ}
+use lib.ListN.{length, getElem?}
+use lib.Seq.{slice}
+
+pub record Network : Type 0 where
+  pub nodes : ℕ
+  pub origins : List ℕ
+  pub ends : List ℕ
+
+pub record Job : Type 0 where
+  pub network : Network
+  pub sources : List ℕ
+  pub stops : List ℕ
+  pub hops : List ℕ
+
+-- a link is one-way, from one node to another
+pub record Link : Type 0 where
+  pub from : ℕ
+  pub to : ℕ
+
+abbrev pub linkOf : Option ℕ → Option ℕ → Option Link
+linkOf none e = none
+linkOf (some o) none = none
+linkOf (some o) (some e) = some (record { from = o; to = e })
+
+-- link l, if there is one
+unfoldable pub linkAt : Network → ℕ → Option Link
+linkAt net l = linkOf (getElem? (net .origins) l) (getElem? (net .ends) l)
+
+-- each path goes on in the hops where the one before stopped, at a for the first
+unfoldable pub pathsFrom : ℕ → List ℕ → List ℕ → List (List ℕ)
+pathsFrom a [] hops = []
+pathsFrom a (e ∷ es) hops = slice a e hops ∷ pathsFrom e es hops
+
+-- the paths of a job's packets, in order: lists of link numbers
+unfoldable pub paths : Job → List (List ℕ)
+paths j = pathsFrom 0 (j .stops) (j .hops)

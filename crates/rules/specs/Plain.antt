@@ -1,0 +1,52 @@
+-- Document 01, "The network and its steps" and Check, said without claims, search or scan. The theorems show that the
+-- definitions that compute mean this.
+use mathlib.Core.Path.{_≡_}
+use mathlib.Core.List.{List}
+use mathlib.Core.Option.{some}
+use Prim.Native.Nat.{ℕ, _+_, _<_, _≤_}
+use lib.ListN.{length, getElem?}
+
+-- a packet with start s enters the link in the step: the link stands at hop position p, and s + p is the step
+pub record Enters (s : ℕ) (path : List ℕ) (link step : ℕ) : Type 0 where
+  pub hop : ℕ
+  pub there : getElem? path hop ≡ some link
+  pub then-step : s + hop ≡ step
+
+-- two packets enter one link in one step
+pub record Conflict (s : ℕ) (p : List ℕ) (t : ℕ) (q : List ℕ) : Type 0 where
+  pub link : ℕ
+  pub step : ℕ
+  pub one : Enters s p link step
+  pub other : Enters t q link step
+
+-- started at s, packet k conflicts with no packet listed before it
+abbrev pub Free : List (List ℕ) → List ℕ → ℕ → List ℕ → ℕ → Type 0
+Free ps ss k p s = (j : ℕ) (q : List ℕ) (t : ℕ) → j < k → getElem? ps j ≡ some q → getElem? ss j ≡ some t → Conflict s p t q → ⊥
+
+-- the starts of source document 003's greedy algorithm: each the smallest step, from 0 up, that is free
+pub record Starts (ps : List (List ℕ)) (ss : List ℕ) : Type 0 where
+  pub count : length ss ≡ length ps
+  pub free : (k : ℕ) (p : List ℕ) (s : ℕ) → getElem? ps k ≡ some p → getElem? ss k ≡ some s → Free ps ss k p s
+  pub least : (k : ℕ) (p : List ℕ) (s t : ℕ) → getElem? ps k ≡ some p → getElem? ss k ≡ some s → t < s → Free ps ss k p t → ⊥
+
+-- packet k conflicts with packet e, listed before it, on the link in the step
+pub record ConflictAt (ps : List (List ℕ)) (ss : List ℕ) (k e link step : ℕ) : Type 0 where
+  pub before : e < k
+  pub start-k : ℕ
+  pub start-e : ℕ
+  pub path-k : List ℕ
+  pub path-e : List ℕ
+  pub is-start-k : getElem? ss k ≡ some start-k
+  pub is-start-e : getElem? ss e ≡ some start-e
+  pub is-path-k : getElem? ps k ≡ some path-k
+  pub is-path-e : getElem? ps e ≡ some path-e
+  pub enters-k : Enters start-k path-k link step
+  pub enters-e : Enters start-e path-e link step
+
+-- the clash that the check shows: the lowest k; its first conflicting hop, which on a path is its earliest such step; the
+-- lowest e there
+pub record Shown (ps : List (List ℕ)) (ss : List ℕ) (k e link step : ℕ) : Type 0 where
+  pub true-conflict : ConflictAt ps ss k e link step
+  pub lowest : (k′ e′ l t : ℕ) → ConflictAt ps ss k′ e′ l t → k ≤ k′
+  pub first-hop : (e′ l t : ℕ) → ConflictAt ps ss k e′ l t → step ≤ t
+  pub lowest-there : (e′ : ℕ) → ConflictAt ps ss k e′ link step → e ≤ e′

@@ -1,0 +1,17 @@
+-- Document 01, "Job text and plan text": the plan's text.
+use mathlib.Core.List.{List, [], _∷_, _++_}
+use Prim.Native.Nat.{ℕ, suc}
+use Rattle.rules.specs.Network.{Job, paths}
+use Rattle.rules.specs.Counts.{endOf, routingTime, congestion, dilation}
+use Rattle.rules.specs.Bytes.{letterS, letterT, lineText}
+
+-- a line for each packet, from number k on: packet, start, end
+unfoldable pub packetLines : ℕ → List ℕ → List (List ℕ) → List ℕ
+packetLines k [] ps = []
+packetLines k (s ∷ ss) [] = []
+packetLines k (s ∷ ss) (p ∷ ps) = lineText letterS (k ∷ s ∷ endOf s p ∷ []) ++ packetLines (suc k) ss ps
+
+-- and at last routing time, C and D
+unfoldable pub planText : Job → List ℕ → List ℕ
+planText j starts =
+    packetLines 0 starts (paths j) ++ lineText letterT (routingTime starts (paths j) ∷ congestion j ∷ dilation j ∷ [])
