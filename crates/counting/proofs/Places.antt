@@ -1,11 +1,11 @@
 -- Laws of what stands at a place of a list, if anything does.
 use mathlib.Core.Path.{_≡_, refl, sym, ap, _∙_}
-use mathlib.Core.List.{List, [], _∷_, _++_, map, List·Memᴰ, List·Memᴰ·head as here, List·Memᴰ·tail as there}
+use mathlib.Core.List.{List, [], _∷_, _++_, map, Memᴰ·append-left, List·Memᴰ, List·Memᴰ·head as here, List·Memᴰ·tail as there}
 use mathlib.Core.Option.{Option, none, some}
 use Prim.Native.Nat.{ℕ, zero, suc, _+_, _≤_, _<_}
 use native.Mathlib.Omega.{arith}
 use native.Mathlib.Nat.{not-suc-le-zero, le-of-suc-le-suc}
-use lib.ListN.{length, getD, take, getElem?}
+use lib.ListN.{length, getD, take, drop, getElem?, take-append-drop, length-take}
 
 module _ {A : Type 0} where
   pub some-same : {a b : A} → some a ≡ some b → a ≡ b
@@ -44,6 +44,12 @@ module _ {A : Type 0} where
   at-take (x ∷ xs) (suc n) zero h = refl
   at-take (x ∷ xs) (suc n) (suc i) h = at-take xs n i (le-of-suc-le-suc h)
 
+  pub at-take-below : (xs : List A) (n i : ℕ) {x : A} → getElem? (take n xs) i ≡ some x → i < n
+  at-take-below xs n i e = omega (arith, at-below (take n xs) i e, length-take n xs)
+
+  pub mem-take : (n : ℕ) (xs : List A) {x : A} → List·Memᴰ x (take n xs) → List·Memᴰ x xs
+  mem-take n xs m = rw take-append-drop at (Memᴰ·append-left (drop n xs) m)
+
   pub at-append-left : (xs ys : List A) (i : ℕ) → i < length xs → getElem? (xs ++ ys) i ≡ getElem? xs i
   at-append-left [] ys i h = absurd (not-suc-le-zero h)
   at-append-left (x ∷ xs) ys zero h = refl
@@ -57,3 +63,8 @@ pub at-map : {A B : Type 0} (f : A → B) (xs : List A) (i : ℕ) {x : A} → ge
 at-map f [] i e = absurd (none-not-some e)
 at-map {B = B} f (y ∷ ys) zero e = ap {B = Option B} (λ z. some (f z)) (some-same e)
 at-map f (y ∷ ys) (suc i) e = at-map f ys i e
+
+pub at-map-split : {A B : Type 0} (f : A → B) (xs : List A) (i : ℕ) {y : B} → getElem? (map f xs) i ≡ some y → (x : A) × (getElem? xs i ≡ some x) × (y ≡ f x)
+at-map-split f [] i e = absurd (none-not-some e)
+at-map-split f (x ∷ xs) zero e = (x, refl, sym (some-same e))
+at-map-split f (x ∷ xs) (suc i) e = at-map-split f xs i e

@@ -7,7 +7,7 @@ use lib.IntN.{ℤ, pos, negsuc}
 use Rattle.rules.specs.Network.{linkAt, pathsFrom, paths}
 use Rattle.rules.specs.Outcome.{is, onward}
 use Rattle.rules.specs.Tables.{linkVerdict, walk, packetVerdict, linksVerdict, packetsVerdict, stopsAgree, tables}
-use Rattle.rules.specs.Claims.{linkClaims, claims, takes, conflict, blocked}
+use Rattle.rules.specs.Claims.{linkClaims, claims, placed, takes, conflict, blocked}
 use Rattle.rules.specs.Greedy.{scan, crossings, firstFree, greedyAfter, greedy}
 use Rattle.rules.specs.Counts.{endOf, routingTime, load, congestion, dilation, shared, meetingsWith, meetingsAfter, meetings}
 use Rattle.rules.specs.Check.{Clash, holder, clashOf, clashAfter}
@@ -15,7 +15,7 @@ use Rattle.rules.specs.Lead.{entryStep, entryAt, lead}
 use Rattle.rules.specs.Bytes.{letterN, letterL, letterP, letterR, letterS, letterT, digits, decimal, fieldsText, lineText, valueAfter, numberOf, numbersOf, split}
 use Rattle.rules.specs.JobText.{lineOf, withLine, withLines, reading}
 use Rattle.rules.specs.PlanText.{packetLines, planText}
-use Rattle.rules.specs.Answers.{startsVerdict, startedVerdict, placed, checked, led, answer, printed}
+use Rattle.rules.specs.Answers.{startsVerdict, startedVerdict, checked, led, answer, printed}
 
 -- a session: a job's text, what is asked of it, and what is told
 pub data Session : Type 0 where
@@ -107,8 +107,8 @@ table =
 
 pub sessions : AllHold table
 unfolding table
-    linkAt pathsFrom paths linkVerdict walk packetVerdict linksVerdict packetsVerdict stopsAgree tables linkClaims claims takes conflict blocked
+    linkAt pathsFrom paths linkVerdict walk packetVerdict linksVerdict packetsVerdict stopsAgree tables linkClaims claims placed takes conflict blocked
     scan crossings firstFree greedyAfter greedy endOf routingTime load congestion dilation shared meetingsWith meetingsAfter meetings holder clashOf clashAfter entryStep entryAt lead
     digits decimal fieldsText lineText valueAfter numberOf numbersOf split lineOf withLine withLines reading packetLines planText
-    startsVerdict startedVerdict placed checked led answer printed
+    startsVerdict startedVerdict checked led answer printed
 sessions = (refl, (refl, (refl, (refl, (refl, (refl, (refl, (refl, (refl, (refl, (refl, (refl, (refl, (refl, (refl, tt)))))))))))))))

@@ -9,7 +9,7 @@ use Rattle.rules.specs.Sizes.{startMost}
 use Rattle.rules.specs.Network.{Job, paths}
 use Rattle.rules.specs.Outcome.{Outcome, is, refused, Verdict, fine, must, _then_, onward}
 use Rattle.rules.specs.Tables.{tables}
-use Rattle.rules.specs.Claims.{Claim, claims, Placed, place}
+use Rattle.rules.specs.Claims.{claims, placed}
 use Rattle.rules.specs.Greedy.{greedy}
 use Rattle.rules.specs.Check.{Clash, clashAfter}
 use Rattle.rules.specs.Lead.{lead}
@@ -25,12 +25,6 @@ startsVerdict k (s ∷ ss) = must (leb s startMost) 12 k then startsVerdict (suc
 -- a job with starts made elsewhere: tables, 11, 12
 unfoldable pub startedVerdict : Job → List ℕ → Verdict
 startedVerdict j starts = tables j then must (eqb (length starts) (length (j .sources))) 11 0 then startsVerdict 0 starts
-
--- packets with their starts
-unfoldable pub placed : List ℕ → List (List Claim) → List Placed
-placed [] rest = []
-placed (s ∷ ss) [] = []
-placed (s ∷ ss) (cs ∷ rest) = place s cs ∷ placed ss rest
 
 -- the planner, with room for so many starts
 unfoldable pub planned : Job → ℕ → Outcome (List ℕ)

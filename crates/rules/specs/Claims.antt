@@ -28,6 +28,12 @@ pub record Placed : Type 0 where
 abbrev pub place : ℕ → List Claim → Placed
 place s cs = record { start = s; claimed = cs }
 
+-- packets with their starts
+unfoldable pub placed : List ℕ → List (List Claim) → List Placed
+placed [] rest = []
+placed (s ∷ ss) [] = []
+placed (s ∷ ss) (cs ∷ rest) = place s cs ∷ placed ss rest
+
 -- the placed packet takes the resource in the step
 unfoldable pub takes : Placed → ℕ → ℕ → Bool
 takes b resource step = anyOf (λ c. eqb (c .resource) resource && eqb (b .start + c .offset) step) (b .claimed)

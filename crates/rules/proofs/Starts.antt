@@ -1,0 +1,90 @@
+-- The greedy starts of a job are the plain ones, and there are no others.
+use mathlib.Core.Path.{_≡_, refl, sym, ap, _∙_, subst}
+use mathlib.Core.Bool.{Bool, true, false}
+use mathlib.Core.Logic.{_↔_}
+use mathlib.Core.List.{List, [], _∷_, map}
+use mathlib.Core.Option.{Option, none, some}
+use Prim.Native.Nat.{ℕ, zero, suc, _<_}
+use native.Mathlib.Omega.{arith}
+use native.Mathlib.Decide.{decLt}
+use lib.ListN.{length, take, getElem?, length-map}
+use Rattle.counting.specs.Count.{anyOf}
+use Rattle.counting.proofs.Tests.{any-mem, any-true, false-of-not-true, true-of-not-false, never-both}
+use Rattle.counting.proofs.Places.{at-mem, mem-at, at-take, at-take-below}
+use Rattle.rules.specs.Network.{Job, paths}
+use Rattle.rules.specs.Claims.{linkClaims, claims, Placed, place, conflict, blocked}
+use Rattle.rules.specs.Greedy.{FirstFree, greedy, greedyAfter}
+use Rattle.rules.specs.Plain.{Conflict, Free, Starts}
+use Rattle.rules.proofs.Conflicts.{conflict-iff, conflict-sym}
+use Rattle.rules.proofs.OnPaths.{onPaths, on-paths-at, on-paths-split}
+use Rattle.rules.proofs.Greedies.{EachFirst, greedy-each-first, each-first-greedy, each-first-clear, length-greedy-after, greedy-take}
+
+-- free of those listed before is not blocked by them
+pub free-iff : (ps : List (List ℕ)) (ss : List ℕ) (k : ℕ) (p : List ℕ) (s : ℕ) → Free ps ss k p s ↔ (blocked (take k (onPaths ss ps)) (linkClaims 0 p) s ≡ false)
+unfolding blocked
+free-iff ps ss k p s = (
+  λ free. false-of-not-true _ (λ e.
+      let t = any-true (λ b. conflict (place s (linkClaims 0 p)) b) (take k (onPaths ss ps)) e in
+      let m = mem-at (t .1) in
+      let l : m .0 < k = at-take-below (onPaths ss ps) k (m .0) (m .1) in
+      let st = on-paths-split ss ps (m .0) (sym (at-take (onPaths ss ps) k (m .0) l) ∙ m .1) in
+      free (m .0) (st .path) (t .0 .start) l (st .is-path) (st .is-start)
+      (conflict-iff s p (t .0 .start) (st .path) .0 (rw (st .is-placed) at (t .2)))),
+  λ e i q t l is-path is-start c.
+      never-both (blocked (take k (onPaths ss ps)) (linkClaims 0 p) s)
+      (any-mem (λ b. conflict (place s (linkClaims 0 p)) b)
+      (at-mem (take k (onPaths ss ps)) i (at-take (onPaths ss ps) k i l ∙ on-paths-at ss ps i is-start is-path)) (conflict-iff s p t q .1 c)) e,
+)
+
+pub starts-iff : (ps : List (List ℕ)) (ss : List ℕ) → Starts ps ss ↔ ((length ss ≡ length ps) × EachFirst [] (onPaths ss ps))
+starts-iff ps ss = (
+  λ st. (st .count, λ k b e. let r = on-paths-split ss ps k e in
+      rw (r .is-placed) (record {
+        free = free-iff ps ss k (r .path) (b .start) .0 (st .free k (r .path) (b .start) (r .is-path) (r .is-start));
+        least = λ t l. true-of-not-false _ (λ f. st .least k (r .path) (b .start) t (r .is-path) (r .is-start) l (free-iff ps ss k (r .path) t .1 f));
+      })),
+  λ h. record {
+    count = h .0;
+    free = λ k p s is-path is-start. free-iff ps ss k p s .1 (h .1 k (place s (linkClaims 0 p)) (on-paths-at ss ps k is-start is-path) .free);
+    least = λ k p s t is-path is-start l free.
+        never-both _ (h .1 k (place s (linkClaims 0 p)) (on-paths-at ss ps k is-start is-path) .least t l) (free-iff ps ss k p t .0 free);
+  },
+)
+
+pub length-greedy : (j : Job) → length (greedy j) ≡ length (paths j)
+unfolding greedy claims
+length-greedy j = length-greedy-after [] (claims j) ∙ length-map (paths j) (linkClaims 0)
+
+pub greedy-first : (j : Job) → EachFirst [] (onPaths (greedy j) (paths j))
+unfolding greedy claims
+greedy-first j = greedy-each-first [] (claims j)
+
+pub greedy-starts : (j : Job) → Starts (paths j) (greedy j)
+greedy-starts j = starts-iff (paths j) (greedy j) .1 (length-greedy j, greedy-first j)
+
+pub only-greedy-starts : (j : Job) (ss : List ℕ) → Starts (paths j) ss → ss ≡ greedy j
+unfolding greedy claims
+only-greedy-starts j ss st =
+    let h = starts-iff (paths j) ss .0 st in
+    each-first-greedy [] (claims j) ss (h .0 ∙ sym (length-map (paths j) (linkClaims 0))) (h .1)
+
+-- no two packets of a greedy plan conflict
+pub greedy-no-conflict : (j : Job) (i k : ℕ) (p q : List ℕ) (s t : ℕ) → (i ≡ k → ⊥) → getElem? (paths j) i ≡ some p → getElem? (paths j) k ≡ some q → getElem? (greedy j) i ≡ some s → getElem? (greedy j) k ≡ some t → Conflict s p t q → ⊥
+greedy-no-conflict j i k p q s t apart is-p is-q is-s is-t c = go (decLt i k)
+  where
+    go : Dec (i < k) → ⊥
+    go (yes l) = greedy-starts j .free k q t is-q is-t i p s l is-p is-s (conflict-sym c)
+    go (no f) = greedy-starts j .free i p s is-p is-s k q t (omega arith) is-q is-t c
+
+-- the starts up to a packet depend only on the packets up to it
+pub greedy-front : (j j′ : Job) (n : ℕ) → take n (paths j) ≡ take n (paths j′) → take n (greedy j) ≡ take n (greedy j′)
+unfolding greedy claims
+greedy-front j j′ n e =
+    greedy-take [] (claims j) n
+    ∙ ap (greedyAfter []) (take-map n (paths j) ∙ ap (map (linkClaims 0)) e ∙ sym (take-map n (paths j′)))
+    ∙ sym (greedy-take [] (claims j′) n)
+  where
+    take-map : (n : ℕ) (ps : List (List ℕ)) → take n (map (linkClaims 0) ps) ≡ map (linkClaims 0) (take n ps)
+    take-map zero ps = refl
+    take-map (suc n) [] = refl
+    take-map (suc n) (p ∷ ps) = ap (λ r. linkClaims 0 p ∷ r) (take-map n ps)
