@@ -2,7 +2,7 @@
 use mathlib.Core.Path.{_≡_, refl, ap}
 use mathlib.Core.Bool.{Bool, true, false, _&&_, _||_, and-true, and-false}
 use mathlib.Core.List.{List, [], _∷_, _++_, List·Memᴰ, List·Memᴰ·head as here, List·Memᴰ·tail as there}
-use mathlib.Core.Logic.{_⊎_, inl, inr}
+use mathlib.Core.Logic.{_⊎_, inl, inr, ⊎-elim}
 use Prim.Native.Nat.{ℕ, zero, suc, _+_, _*_, _≤_, _<_, max}
 use native.Mathlib.Omega.{arith}
 use native.Mathlib.Nat.{not-suc-le-zero, eq-or-lt-of-le, le-of-suc-le-suc}
@@ -15,6 +15,11 @@ use Rattle.counting.proofs.Sums.{bit-or, sum-le, sum-same, sum-const, s
 pub sum-below-le : (f g : ℕ → ℕ) (n : ℕ) → ((i : ℕ) → i < n → f i ≤ g i) → sumBelow f n ≤ sumBelow g n
 sum-below-le f g zero h = omega arith
 sum-below-le f g (suc n) h = omega (arith, h n (omega arith), sum-below-le f g n (λ i l. h i (omega arith)))
+
+pub sum-below-mono : (f : ℕ → ℕ) (m n : ℕ) → m ≤ n → sumBelow f m ≤ sumBelow f n
+sum-below-mono f m zero h = let e : m ≡ 0 = omega arith in rw e (omega arith)
+sum-below-mono f m (suc n) h =
+    ⊎-elim (λ e. rw e (omega arith)) (λ l. omega (arith, sum-below-mono f m n (omega arith))) (eq-or-lt-of-le h)
 
 pub sum-below-add : (f g : ℕ → ℕ) (n : ℕ) → sumBelow (λ i. f i + g i) n ≡ sumBelow f n + sumBelow g n
 sum-below-add f g zero = refl

@@ -15,11 +15,11 @@ use Rattle.counting.proofs.Tests.{any-mem, and-right}
 use Rattle.counting.proofs.Sums.{sum-le, sum-const, sum-append, sum-swap, sum-le-any, le-max, max-le}
 use Rattle.counting.proofs.Hits.{occurs, sum-le-hits, sum-below-le, hits-any, hits-once, le-max-below}
 use Rattle.counting.proofs.Places.{some-same, none-not-some, at-mem, at-map, at-below, at-getD, mem-take}
 use Rattle.rules.specs.Claims.{Claim, linkClaims, Placed, place, placed}
 use Rattle.rules.specs.Greedy.{FirstFree, crossings}
 use Rattle.rules.specs.Counts.{endOf, routingTime, load, shared, meetingsWith, meetingsAfter}
-use Rattle.rules.proofs.FirstFrees.{first-free-le-crossings}
-use Rattle.rules.proofs.OnPaths.{onPaths}
+use Rattle.theorems.proofs.FirstFrees.{first-free-le-crossings}
+use Rattle.theorems.proofs.OnPaths.{onPaths}
 
 -- all links are below n, and none stands twice
 pub record Simple (n : ℕ) (p : List ℕ) : Type 0 where
@@ -105,3 +105,38 @@ end-le-product n ts ps k p s simple e h =
     some-link : (p : List ℕ) → ((l : ℕ) → List·Memᴰ l p → load l (take k ps) < C) → 0 < length p → 0 < C
     some-link [] f z = omega arith
     some-link (l ∷ ls) f z = omega (arith, f l (here refl))
+
+pub routing-time-le : (ss : List ℕ) (ps : List (List ℕ)) (most : ℕ) → ((k s : ℕ) (p : List ℕ) → getElem? ss k ≡ some s → getElem? ps k ≡ some p → endOf s p ≤ most) → routingTime ss ps ≤ most
+unfolding routingTime
+routing-time-le [] ps most h = omega arith
+routing-time-le (s ∷ ss) [] most h = omega arith
+routing-time-le (s ∷ ss) (p ∷ ps) most h = omega (arith, h 0 s p refl refl, routing-time-le ss ps most (λ k t q e f. h (suc k) t q e f))
+
+-- ---- meetings in order, and their number
+
+pub meetings-at : (n : ℕ) (before ps : List (List ℕ)) (k : ℕ) {m : ℕ} {p : List ℕ} → getElem? (meetingsAfter n before ps) k ≡ some m → getElem? ps k ≡ some p → meetingsWith n (before ++ take k ps) p ≡ m
+unfolding meetingsAfter
+meetings-at n before [] k e f = absurd (none-not-some e)
+meetings-at n before (q ∷ ps) zero e f = rw (append-nil, ← some-same f) (some-same e)
+meetings-at n before (q ∷ ps) (suc k) e f = rw append-assoc at (meetings-at n (before ++ (q ∷ [])) ps k e f)
+
+-- at most every hop of those listed before is a meeting
+pub meetings-le-hops : (n : ℕ) (qs : List (List ℕ)) (p : List ℕ) → meetingsWith n qs p ≤ sumOf (λ q. length q) qs
+unfolding meetingsWith shared
+meetings-le-hops n qs p = sum-le _ _ qs (λ q m. le-trans (sum-below-le _ _ n (λ l h. bit-and-le (among l p) (among l q))) (links-le q))
+  where
+    bit-and-le : (a b : Bool) → bit (a && b) ≤ bit b
+    bit-and-le true b = omega arith
+    bit-and-le false b = omega arith
+
+    links-le : (q : List ℕ) → hits (λ l. among l q) n ≤ length q
+    links-le q =
+        omega (
+          arith,
+          hits-any (λ x l. eqb x l) q n,
+          sum-le (λ x. hits (λ l. eqb x l) n) (λ x. 1) q (λ x m. hits-once (λ l. eqb x l) (λ i k a b. omega (arith, eqb-true)) n),
+          sum-const 1 q,
+        )
+
+pub sum-take-le : (f : List ℕ → ℕ) (n : ℕ) (ps : List (List ℕ)) → sumOf f (take n ps) ≤ sumOf f ps
+sum-take-le f n ps = omega (arith, sum-append f (take n ps) (drop n ps), ap (sumOf f) (take-append-drop n ps))

@@ -10,9 +10,9 @@ use lib.ListN.{length, take, getElem?}
 use Rattle.counting.specs.Count.{anyOf}
 use Rattle.counting.proofs.Tests.{any-mem, false-of-not-true, never-both}
 use Rattle.counting.proofs.Places.{some-same, none-not-some, at-mem, at-take}
 use Rattle.rules.specs.Claims.{Claim, Placed, place, placed, conflict, blocked}
 use Rattle.rules.specs.Greedy.{FirstFree, firstFree, greedyAfter}
-use Rattle.rules.proofs.FirstFrees.{first-free-is, first-free-unique}
+use Rattle.theorems.proofs.FirstFrees.{first-free-is, first-free-unique}
 
 -- each of xs, placed after bs, starts at its first free step
 abbrev pub EachFirst : List Placed → List Placed → Type 0

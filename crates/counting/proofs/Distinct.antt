@@ -1,0 +1,71 @@
+-- Numbers that stand in a list once at most.
+use mathlib.Core.Path.{_≡_, refl, sym, ap, _∙_}
+use mathlib.Core.Bool.{Bool, true, false}
+use mathlib.Core.List.{List, [], _∷_, _++_}
+use mathlib.Core.Logic.{_⊎_, inl, inr, ⊎-map}
+use mathlib.Core.Option.{Option, none, some}
+use Prim.Native.Nat.{ℕ, zero, suc, _+_, _≤_, _<_}
+use native.Mathlib.Omega.{arith}
+use native.Mathlib.Nat.{suc-inj}
+use lib.Dec.{eqb}
+use lib.ListN.{length, getElem?}
+use borrow.Author.Tests.{eqb-true, eq-eqb}
+use Rattle.counting.specs.Count.{among, bit}
+use Rattle.counting.proofs.Tests.{any-mem, any-true, false-of-not-true, never-both}
+use Rattle.counting.proofs.Sums.{sum-le-any}
+use Rattle.counting.proofs.Hits.{occurs}
+use Rattle.counting.proofs.Places.{some-same, at-below, at-mem, mem-at, at-append-left, at-append-seam}
+
+-- what stands in a list with one more at its end
+pub at-snoc : {A : Type 0} (xs : List A) (y : A) (i : ℕ) {x : A} → getElem? (xs ++ (y ∷ [])) i ≡ some x → (getElem? xs i ≡ some x) ⊎ ((i ≡ length xs) × (y ≡ x))
+at-snoc [] y zero e = inr (refl, some-same e)
+at-snoc [] y (suc i) e = inl e
+at-snoc (z ∷ xs) y zero e = inl e
+at-snoc (z ∷ xs) y (suc i) e = ⊎-map (λ a. a) (λ b. (ap suc (b .0), b .1)) (at-snoc xs y i e)
+
+-- no number stands at two places
+abbrev pub Distinct : List ℕ → Type 0
+Distinct ns = (p q n : ℕ) → getElem? ns p ≡ some n → getElem? ns q ≡ some n → p ≡ q
+
+-- what is among the numbers stands at a place, and the other way round
+pub among-at : (n : ℕ) (ns : List ℕ) → among n ns ≡ true → (i : ℕ) × (getElem? ns i ≡ some n)
+among-at n ns e =
+    let (m, there, same) = any-true (λ m. eqb m n) ns e in
+    let (i, at) = mem-at there in
+    (i, at ∙ ap {B = Option ℕ} some (eqb-true m n same))
+
+pub at-among : (n : ℕ) (ns : List ℕ) (i : ℕ) → getElem? ns i ≡ some n → among n ns ≡ true
+at-among n ns i e = any-mem (λ m. eqb m n) (at-mem ns i e) (eq-eqb n n refl)
+
+pub distinct-snoc : (ns : List ℕ) (n : ℕ) → Distinct ns → among n ns ≡ false → Distinct (ns ++ (n ∷ []))
+distinct-snoc ns n d new p q m a b = go (at-snoc ns n p a) (at-snoc ns n q b)
+  where
+    old : (i : ℕ) → getElem? ns i ≡ some m → n ≡ m → ⊥
+    old i c e = never-both (among n ns) (at-among n ns i (c ∙ ap {B = Option ℕ} some (sym e))) new
+
+    go : (getElem? ns p ≡ some m) ⊎ ((p ≡ length ns) × (n ≡ m)) → (getElem? ns q ≡ some m) ⊎ ((q ≡ length ns) × (n ≡ m)) → p ≡ q
+    go (inl a) (inl b) = d p q m a b
+    go (inl a) (inr b) = absurd (old p a (b .1))
+    go (inr a) (inl b) = absurd (old q b (a .1))
+    go (inr a) (inr b) = a .0 ∙ sym (b .0)
+
+pub distinct-new : (ns : List ℕ) (n : ℕ) (ms : List ℕ) → Distinct (ns ++ n ∷ ms) → among n ns ≡ false
+distinct-new ns n ms d = false-of-not-true (among n ns) twice
+  where
+    twice : among n ns ≡ true → ⊥
+    twice h =
+        let (i, e) = among-at n ns h in
+        let l = at-below ns i e in
+        omega (arith, d i (length ns) n (at-append-left ns (n ∷ ms) i l ∙ e) (at-append-seam ns n ms))
+
+pub distinct-occurs : (ns : List ℕ) → Distinct ns → (n : ℕ) → occurs n ns ≤ 1
+distinct-occurs [] d n = omega arith
+distinct-occurs (m ∷ ns) d n = go (eqb m n) refl (distinct-occurs ns (λ p q k a b. suc-inj (d (suc p) (suc q) k a b)) n)
+  where
+    go : (t : Bool) → eqb m n ≡ t → occurs n ns ≤ 1 → bit t + occurs n ns ≤ 1
+    go false e r = omega arith
+    go true e r = omega (arith, sum-le-any (λ k. eqb k n) ns r, ap bit (false-of-not-true (among n ns) absent))
+      where
+        absent : among n ns ≡ true → ⊥
+        absent h = let t = among-at n ns h in omega (arith, d 0 (suc (t .0)) n (ap {B = Option ℕ} some (eqb-true m n e)) (t .1))
+

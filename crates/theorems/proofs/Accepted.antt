@@ -1,0 +1,129 @@
+-- What the tables accept, in plain terms: sizes within their limits, links between two nodes of the network, and packets on
+-- paths of it.
+use mathlib.Core.Path.{_≡_, refl, sym}
+use mathlib.Core.Bool.{true}
+use mathlib.Core.List.{List, [], _∷_}
+use mathlib.Core.Logic.{_↔_, Iff·trans, Iff·rfl}
+use mathlib.Core.Option.{some}
+use Prim.Native.Nat.{ℕ, zero, suc, _+_, _≤_, _<_}
+use native.Mathlib.Omega.{arith}
+use lib.ListN.{length, getElem?}
+use lib.Seq.{length-slice}
+use Rattle.counting.specs.Count.{sumOf}
+use Rattle.counting.proofs.Places.{some-same, none-not-some}
+use Rattle.rules.specs.Sizes.{nodesMost, linksMost, packetsMost, pathMost, hopsMost}
+use Rattle.rules.specs.Network.{Network, Job, pathsFrom, paths}
+use Rattle.rules.specs.Path.{IsPath}
+use Rattle.rules.specs.Outcome.{fine}
+use Rattle.rules.specs.Tables.{linkVerdict, packetVerdict, linksVerdict, packetsVerdict, stopsAgree, tables}
+use Rattle.theorems.proofs.Verdicts.{leb-iff, eqb-iff, and-iff, not-iff, must-iff, then-iff}
+use Rattle.theorems.proofs.Paths.{walk-fine-iff}
+
+-- the statement holds of what stands at one place in both lists, at every place
+abbrev pub AtEach : {A B : Type 0} → (A → B → Type 0) → List A → List B → Type 0
+AtEach {A} {B} P xs ys = (i : ℕ) (x : A) (y : B) → getElem? xs i ≡ some x → getElem? ys i ≡ some y → P x y
+
+module _ {A B : Type 0} (P : A → B → Type 0) where
+  at-each-cons-iff : (x : A) (xs : List A) (y : B) (ys : List B) → (P x y × AtEach P xs ys) ↔ AtEach P (x ∷ xs) (y ∷ ys)
+  at-each-cons-iff x xs y ys = (to, λ h. (h 0 x y refl refl, λ i. h (suc i)))
+    where
+      to : P x y × AtEach P xs ys → AtEach P (x ∷ xs) (y ∷ ys)
+      to t zero u v a b = rw (← some-same a, ← some-same b) (t .0)
+      to t (suc i) u v a b = t .1 i u v a b
+
+-- a link of a network with so many nodes
+pub record IsLink (nodes from to : ℕ) : Type 0 where
+  pub from-node : from < nodes
+  pub to-node : to < nodes
+  pub apart : from ≡ to → ⊥
+
+-- a packet of the network
+pub record IsPacket (net : Network) (source : ℕ) (path : List ℕ) : Type 0 where
+  pub short : length path ≤ pathMost
+  pub source-node : source < net .nodes
+  pub on-path : IsPath net source path
+
+-- an accepted job
+pub record IsJob (j : Job) : Type 0 where
+  pub ends-count : length (j .network .ends) ≡ length (j .network .origins)
+  pub stops-count : length (j .stops) ≡ length (j .sources)
+  pub stops-agree : stopsAgree 0 (j .stops) (length (j .hops)) ≡ true
+  pub nodes-least : 1 ≤ j .network .nodes
+  pub nodes-most : j .network .nodes ≤ nodesMost
+  pub links-most : length (j .network .origins) ≤ linksMost
+  pub packets-most : length (j .sources) ≤ packetsMost
+  pub hops-most : length (j .hops) ≤ hopsMost
+  pub links : AtEach (IsLink (j .network .nodes)) (j .network .origins) (j .network .ends)
+  pub packets : AtEach (IsPacket (j .network)) (j .sources) (paths j)
+
+pub link-fine-iff : (nodes place from to : ℕ) → (linkVerdict nodes place from to ≡ fine) ↔ IsLink nodes from to
+unfolding linkVerdict
+link-fine-iff nodes place from to =
+    Iff·trans (then-iff (must-iff _ _ (leb-iff _ _)) (then-iff (must-iff _ _ (leb-iff _ _)) (must-iff _ _ (not-iff (eqb-iff _ _)))))
+    (λ t. record { from-node = t .0; to-node = t .1 .0; apart = t .1 .1 }, λ h. (h .from-node, (h .to-node, h .apart)))
+
+pub packet-fine-iff : (net : Network) (place source : ℕ) (path : List ℕ) → (packetVerdict net place source path ≡ fine) ↔ IsPacket net source path
+unfolding packetVerdict
+packet-fine-iff net place source path =
+    Iff·trans (then-iff (must-iff _ _ (leb-iff _ _)) (then-iff (must-iff _ _ (leb-iff _ _)) (walk-fine-iff net place source path)))
+    (λ t. record { short = t .0; source-node = t .1 .0; on-path = t .1 .1 }, λ h. (h .short, (h .source-node, h .on-path)))
+
+links-fine-iff : (nodes k : ℕ) (os es : List ℕ) → (linksVerdict nodes k os es ≡ fine) ↔ AtEach (IsLink nodes) os es
+unfolding linksVerdict
+links-fine-iff nodes k [] es = (λ e i x y a b. absurd (none-not-some a), λ h. refl)
+links-fine-iff nodes k (o ∷ os) [] = (λ e i x y a b. absurd (none-not-some b), λ h. refl)
+links-fine-iff nodes k (o ∷ os) (e ∷ es) = Iff·trans (then-iff (link-fine-iff nodes k o e) (links-fine-iff nodes (suc k) os es)) (at-each-cons-iff (IsLink nodes) o os e es)
+
+packets-fine-iff : (net : Network) (k : ℕ) (ss : List ℕ) (ps : List (List ℕ)) → (packetsVerdict net k ss ps ≡ fine) ↔ AtEach (IsPacket net) ss ps
+unfolding packetsVerdict
+packets-fine-iff net k [] ps = (λ e i x y a b. absurd (none-not-some a), λ h. refl)
+packets-fine-iff net k (s ∷ ss) [] = (λ e i x y a b. absurd (none-not-some b), λ h. refl)
+packets-fine-iff net k (s ∷ ss) (p ∷ ps) = Iff·trans (then-iff (packet-fine-iff net k s p) (packets-fine-iff net (suc k) ss ps)) (at-each-cons-iff (IsPacket net) s ss p ps)
+
+pub tables-fine-iff : (j : Job) → (tables j ≡ fine) ↔ IsJob j
+unfolding tables
+tables-fine-iff j =
+    Iff·trans
+    (then-iff (must-iff _ _ (eqb-iff _ _))
+    (then-iff (must-iff _ _ (eqb-iff _ _))
+    (then-iff (must-iff _ _ Iff·rfl)
+    (then-iff (must-iff _ _ (and-iff (leb-iff _ _) (leb-iff _ _)))
+    (then-iff (must-iff _ _ (leb-iff _ _))
+    (then-iff (must-iff _ _ (leb-iff _ _))
+    (then-iff (must-iff _ _ (leb-iff _ _))
+    (then-iff (links-fine-iff _ 0 (j .network .origins) (j .network .ends)) (packets-fine-iff (j .network) 0 (j .sources) (paths j)))))))))) (
+      λ t. record {
+        ends-count = sym (t .0);
+        stops-count = sym (t .1 .0);
+        stops-agree = t .1 .1 .0;
+        nodes-least = t .1 .1 .1 .0 .0;
+        nodes-most = t .1 .1 .1 .0 .1;
+        links-most = t .1 .1 .1 .1 .0;
+        packets-most = t .1 .1 .1 .1 .1 .0;
+        hops-most = t .1 .1 .1 .1 .1 .1 .0;
+        links = t .1 .1 .1 .1 .1 .1 .1 .0;
+        packets = t .1 .1 .1 .1 .1 .1 .1 .1;
+      },
+      λ h. (sym (h .ends-count), (sym (h .stops-count), (h .stops-agree, ((h .nodes-least, h .nodes-most), (h .links-most, (h .packets-most, (h .hops-most, (h .links, h .packets)))))))),
+    )
+
+pub length-paths-from : (a : ℕ) (stops hops : List ℕ) → length (pathsFrom a stops hops) ≡ length stops
+unfolding pathsFrom
+length-paths-from a [] hops = refl
+length-paths-from a (e ∷ es) hops = omega (arith, length-paths-from e es hops)
+
+pub length-paths : (j : Job) → length (paths j) ≡ length (j .stops)
+unfolding paths
+length-paths j = length-paths-from 0 (j .stops) (j .hops)
+
+pub hops-from : (a : ℕ) (stops hops : List ℕ) → stopsAgree a stops (length hops) ≡ true → sumOf (λ p. length p) (pathsFrom a stops hops) + a ≡ length hops
+unfolding pathsFrom stopsAgree
+hops-from a [] hops t = omega (arith, eqb-iff a (length hops) .0 t)
+hops-from a (e ∷ es) hops t =
+    let (l, u) = and-iff (leb-iff a e) Iff·rfl .0 t in
+    let r = hops-from e es hops u in
+    omega (arith, length-slice a e hops (omega arith))
+
+pub hops-in-all : (j : Job) → IsJob j → sumOf (λ p. length p) (paths j) ≡ length (j .hops)
+unfolding paths
+hops-in-all j h = omega (arith, hops-from 0 (j .stops) (j .hops) (h .stops-agree))

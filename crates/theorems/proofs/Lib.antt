@@ -1,0 +1,11 @@
+pub mod Verdicts
+pub mod Conflicts
+pub mod FirstFrees
+pub mod Greedies
+pub mod OnPaths
+pub mod Starts
+pub mod Paths
+pub mod Accepted
+pub mod Bounds
+pub mod Numbers
+pub mod PlanLength

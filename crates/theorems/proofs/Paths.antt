@@ -1,0 +1,126 @@
+-- The walk accepts exactly the paths of specs/Path.antt. The links of a path exist, and none comes twice.
+use mathlib.Core.Path.{_≡_, refl, ap}
+use mathlib.Core.Bool.{false}
+use mathlib.Core.List.{List, [], _∷_, _++_, append-nil, List·Memᴰ}
+use mathlib.Core.Logic.{_↔_, Iff·rfl}
+use mathlib.Core.Option.{Option, none, some}
+use Prim.Native.Nat.{ℕ, zero, suc, _≤_, _<_}
+use native.Mathlib.Omega.{arith}
+use native.Mathlib.Nat.{suc-inj}
+use lib.ListN.{length, getElem?}
+use lib.Seq.{append-snoc}
+use borrow.Author.Tests.{eq-eqb}
+use Rattle.counting.specs.Count.{among}
+use Rattle.counting.proofs.Hits.{occurs}
+use Rattle.counting.proofs.Places.{some-same, none-not-some, at-below, at-getD, mem-at}
+use Rattle.counting.proofs.Distinct.{Distinct, distinct-snoc, distinct-new, distinct-occurs}
+use Rattle.rules.specs.Network.{Network, linkOf, linkAt}
+use Rattle.rules.specs.Path.{IsPath}
+use Rattle.rules.specs.Outcome.{Verdict, fine}
+use Rattle.rules.specs.Tables.{hopVerdict, walk}
+use Rattle.theorems.proofs.Verdicts.{eqb-iff, not-true-iff, refused-not-is, must-iff, then-iff}
+
+-- a path from the node reached on, through the nodes that follow; none of those seen so far is visited again
+record Trail (net : Network) (seen : List ℕ) (reached : ℕ) (path nodes : List ℕ) : Type 0 where
+  count : length nodes ≡ length path
+  leaves : (p l v : ℕ) → getElem? path p ≡ some l → getElem? (reached ∷ nodes) p ≡ some v → getElem? (net .origins) l ≡ some v
+  enters : (p l v : ℕ) → getElem? path p ≡ some l → getElem? nodes p ≡ some v → getElem? (net .ends) l ≡ some v
+  once : Distinct (seen ++ nodes)
+
+-- one hop from the node reached, along a link with this origin and this end
+record Hop (reached : ℕ) (seen : List ℕ) (origin end : Option ℕ) (rest : ℕ → Verdict) : Type 0 where
+  node : ℕ
+  leaves : origin ≡ some reached
+  enters : end ≡ some node
+  new : among node seen ≡ false
+  onwards : rest node ≡ fine
+
+hop-of-fine : (place reached : ℕ) (seen : List ℕ) (o e : Option ℕ) (rest : ℕ → Verdict) → hopVerdict place reached seen (linkOf o e) rest ≡ fine → Hop reached seen o e rest
+hop-of-fine place reached seen none e rest h = absurd (refused-not-is h)
+hop-of-fine place reached seen (some o) none rest h = absurd (refused-not-is h)
+hop-of-fine place reached seen (some o) (some e) rest h =
+    let t = then-iff (must-iff _ _ (eqb-iff o reached)) (then-iff (must-iff _ _ (not-true-iff (among e seen))) Iff·rfl) .0 h in
+    record { node = e; leaves = ap {B = Option ℕ} some (t .0); enters = refl; new = t .1 .0; onwards = t .1 .1 }
+
+fine-of-hop : (place reached : ℕ) (seen : List ℕ) (o e : Option ℕ) (rest : ℕ → Verdict) → Hop reached seen o e rest → hopVerdict place reached seen (linkOf o e) rest ≡ fine
+fine-of-hop place reached seen o e rest h = rw (h .leaves, h .enters, eq-eqb reached reached refl, h .new) (h .onwards)
+
+-- a trail with one hop more in front, and with one less
+trail-cons : {net : Network} {seen : List ℕ} {reached node : ℕ} {path nodes : List ℕ} (l : ℕ)
+    → getElem? (net .origins) l ≡ some reached → getElem? (net .ends) l ≡ some node
+    → Trail net (seen ++ (node ∷ [])) node path nodes → Trail net seen reached (l ∷ path) (node ∷ nodes)
+trail-cons {net} {seen} {reached} {node} {path} {nodes} l o e t =
+    record { count = ap suc (t .count); leaves = leaves; enters = enters; once = rw append-snoc at (t .once) }
+  where
+    leaves : (p m v : ℕ) → getElem? (l ∷ path) p ≡ some m → getElem? (reached ∷ node ∷ nodes) p ≡ some v → getElem? (net .origins) m ≡ some v
+    leaves zero m v a b = cc
+    leaves (suc p) m v a b = t .leaves p m v a b
+
+    enters : (p m v : ℕ) → getElem? (l ∷ path) p ≡ some m → getElem? (node ∷ nodes) p ≡ some v → getElem? (net .ends) m ≡ some v
+    enters zero m v a b = cc
+    enters (suc p) m v a b = t .enters p m v a b
+
+trail-tail : {net : Network} {seen : List ℕ} {reached l node : ℕ} {path nodes : List ℕ} → Trail net seen reached (l ∷ path) (node ∷ nodes) → Trail net (seen ++ (node ∷ [])) node path nodes
+trail-tail t =
+    record { count = suc-inj (t .count); leaves = λ p. t .leaves (suc p); enters = λ p. t .enters (suc p); once = rw append-snoc (t .once) }
+
+module _ (net : Network) (place : ℕ) where
+  trail-of-walk : (reached : ℕ) (seen path : List ℕ) → Distinct seen → walk net place reached seen path ≡ fine → (nodes : List ℕ) × Trail net seen reached path nodes
+  unfolding walk linkAt
+  trail-of-walk reached seen [] d h =
+      ([], record { count = refl; leaves = λ p l v a. absurd (none-not-some a); enters = λ p l v a. absurd (none-not-some a); once = rw append-nil d })
+  trail-of-walk reached seen (l ∷ ls) d h =
+      let t = hop-of-fine place reached seen (getElem? (net .origins) l) (getElem? (net .ends) l) _ h in
+      let (nodes, r) = trail-of-walk (t .node) (seen ++ (t .node ∷ [])) ls (distinct-snoc seen (t .node) d (t .new)) (t .onwards) in
+      (t .node ∷ nodes, trail-cons l (t .leaves) (t .enters) r)
+
+  walk-of-trail : (reached : ℕ) (seen path nodes : List ℕ) → Trail net seen reached path nodes → walk net place reached seen path ≡ fine
+  unfolding walk linkAt
+  walk-of-trail reached seen [] nodes t = refl
+  walk-of-trail reached seen (l ∷ ls) [] t = let e = t .count in absurd (omega arith)
+  walk-of-trail reached seen (l ∷ ls) (v ∷ vs) t =
+      fine-of-hop place reached seen (getElem? (net .origins) l) (getElem? (net .ends) l) _ (record {
+        node = v;
+        leaves = t .leaves 0 l reached refl refl;
+        enters = t .enters 0 l v refl refl;
+        new = distinct-new seen v vs (t .once);
+        onwards = walk-of-trail v (seen ++ (v ∷ [])) ls vs (trail-tail t);
+      })
+
+head-at : {A : Type 0} (xs : List A) {x : A} → getElem? xs 0 ≡ some x → (ys : List A) × (xs ≡ x ∷ ys)
+head-at [] e = absurd (none-not-some e)
+head-at (y ∷ ys) e = (ys, ap (λ z. z ∷ ys) (some-same e))
+
+pub walk-fine-iff : (net : Network) (place source : ℕ) (path : List ℕ) → (walk net place source (source ∷ []) path ≡ fine) ↔ IsPath net source path
+walk-fine-iff net place source path = (to, from)
+  where
+    to : walk net place source (source ∷ []) path ≡ fine → IsPath net source path
+    to h =
+        let (nodes, t) = trail-of-walk net place source (source ∷ []) path (distinct-snoc [] source (λ p q n a b. absurd (none-not-some a)) refl) h in
+        record { visited = source ∷ nodes; count = ap suc (t .count); begins = refl; leaves = t .leaves; enters = t .enters; once = t .once }
+
+    from : IsPath net source path → walk net place source (source ∷ []) path ≡ fine
+    from h =
+        let (nodes, e) = head-at (h .visited) (h .begins) in
+        walk-of-trail net place source (source ∷ []) path nodes (record {
+          count = suc-inj (rw e at (h .count));
+          leaves = rw e at (h .leaves);
+          enters = λ p l v a b. h .enters p l v a (rw e b);
+          once = rw e at (h .once);
+        })
+
+module _ {net : Network} {source : ℕ} {path : List ℕ} (h : IsPath net source path) where
+  pub path-links-exist : {l : ℕ} → List·Memᴰ l path → l < length (net .origins)
+  path-links-exist m =
+      let (p, e) = mem-at m in
+      at-below (net .origins) _ (h .leaves p _ _ e (at-getD (h .visited) p 0 (omega (arith, at-below path p e, h .count))))
+
+  -- the node that a link enters would be visited twice
+  pub path-distinct : Distinct path
+  path-distinct p q l a b =
+      let v = at-getD (h .visited) (suc p) 0 (omega (arith, at-below path p a, h .count)) in
+      let w = at-getD (h .visited) (suc q) 0 (omega (arith, at-below path q b, h .count)) in
+      suc-inj (h .once (suc p) (suc q) _ v (cc (h .enters p l _ a v, h .enters q l _ b w)))
+
+  pub path-once : (l : ℕ) → occurs l path ≤ 1
+  path-once = distinct-occurs path path-distinct

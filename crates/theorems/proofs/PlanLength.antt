@@ -1,0 +1,91 @@
+-- How long a plan's text can be. The digits of the packet numbers are counted; every other number is taken at its longest.
+use mathlib.Core.Path.{_≡_, refl}
+use mathlib.Core.List.{List, [], _∷_, _++_, List·Memᴰ, List·Memᴰ·head as here, List·Memᴰ·tail as there}
+use Prim.Native.Nat.{ℕ, zero, suc, _+_, _*_, _≤_}
+use native.Mathlib.Omega.{arith}
+use lib.ListN.{length, length-append}
+use Rattle.counting.specs.Count.{bit, among, sumBelow}
+use Rattle.counting.proofs.Sums.{bit-le-one, sum-le, sum-const, max-le}
+use Rattle.counting.proofs.Hits.{max-below-le, sum-below-mono}
+use Rattle.counting.proofs.Places.{at-mem}
+use Rattle.rules.specs.Sizes.{packetsMost, pathMost, startMost, planMost}
+use Rattle.rules.specs.Network.{Job, paths}
+use Rattle.rules.specs.Counts.{endOf, routingTime, load, congestion, dilation, linkCount}
+use Rattle.rules.specs.Bytes.{letterS, letterT, digits, decimal, fieldsText, lineText}
+use Rattle.rules.specs.PlanText.{packetLines, planText}
+use Rattle.theorems.proofs.Bounds.{routing-time-le}
+use Rattle.theorems.proofs.Numbers.{decimal-length-le}
+
+-- how many digits the numbers below n have together
+digitsBelow : ℕ → ℕ
+digitsBelow n = sumBelow (λ k. length (decimal k)) n
+
+digits-below-mono : (m n : ℕ) → m ≤ n → digitsBelow m ≤ digitsBelow n
+unfolding digitsBelow
+digits-below-mono = sum-below-mono (λ k. length (decimal k))
+
+digits-below-packets : digitsBelow packetsMost ≡ 2986
+unfolding digitsBelow decimal digits
+digits-below-packets = refl
+
+line-length : (letter a b c : ℕ) → length (lineText letter (a ∷ b ∷ c ∷ [])) ≡ 5 + length (decimal a) + length (decimal b) + length (decimal c)
+unfolding lineText fieldsText
+line-length letter a b c = simp length-append (omega arith)
+
+-- each start and each path is within its size
+abbrev StartsFit : List ℕ → Type 0
+StartsFit starts = (s : ℕ) → List·Memᴰ s starts → s ≤ startMost
+
+abbrev PathsFit : List (List ℕ) → Type 0
+PathsFit ps = (p : List ℕ) → List·Memᴰ p ps → length p ≤ pathMost
+
+-- beside the digits of its packet number a line has at most 15 bytes
+lines-length-le : (k m : ℕ) (ss : List ℕ) (ps : List (List ℕ)) → StartsFit ss → PathsFit ps → k + length ss ≤ m
+    → digitsBelow k + length (packetLines k ss ps) ≤ 15 * length ss + digitsBelow m
+unfolding digitsBelow packetLines endOf
+lines-length-le k m [] ps f g h = omega (arith, digits-below-mono k m (omega arith))
+lines-length-le k m (s ∷ ss) [] f g h = omega (arith, digits-below-mono k m (omega arith))
+lines-length-le k m (s ∷ ss) (p ∷ ps) f g h =
+    let a = f s (here refl) in
+    let b = g p (here refl) in
+    omega (
+      arith,
+      length-append (lineText letterS (k ∷ s ∷ (s + length p) ∷ [])) (packetLines (suc k) ss ps),
+      line-length letterS k s (s + length p),
+      decimal-length-le 4 s (omega arith),
+      decimal-length-le 4 (s + length p) (omega arith),
+      lines-length-le (suc k) m ss ps (λ t i. f t (there i)) (λ q i. g q (there i)) (omega arith),
+    )
+
+ends-le : (ss : List ℕ) (ps : List (List ℕ)) → StartsFit ss → PathsFit ps → routingTime ss ps ≤ startMost + pathMost
+unfolding endOf
+ends-le ss ps f g = routing-time-le ss ps (startMost + pathMost) (λ k s p e h. omega (arith, f s (at-mem ss k e), g p (at-mem ps k h)))
+
+pub load-le : (link : ℕ) (ps : List (List ℕ)) → load link ps ≤ length ps
+unfolding load
+load-le link ps =
+    omega (arith, sum-le (λ p. bit (among link p)) (λ p. 1) ps (λ p m. bit-le-one (among link p)), sum-const {A = List ℕ} 1 ps)
+
+pub congestion-le : (j : Job) → congestion j ≤ length (paths j)
+unfolding congestion
+congestion-le j = max-below-le (λ link. load link (paths j)) (linkCount j) (length (paths j)) (λ link l. load-le link (paths j))
+
+dilation-le : (j : Job) → PathsFit (paths j) → dilation j ≤ pathMost
+unfolding dilation
+dilation-le j g = max-le (λ p. length p) (paths j) pathMost g
+
+pub plan-length-le : (j : Job) (starts : List ℕ) → length starts ≤ packetsMost → ((s : ℕ) → List·Memᴰ s starts → s ≤ startMost)
+    → ((p : List ℕ) → List·Memᴰ p (paths j) → length p ≤ pathMost) → length (paths j) ≤ packetsMost → length (planText j starts) ≤ planMost
+unfolding planText
+plan-length-le j starts m f g n =
+    let time = routingTime starts (paths j) in
+    omega (
+      arith,
+      length-append (packetLines 0 starts (paths j)) (lineText letterT (time ∷ congestion j ∷ dilation j ∷ [])),
+      lines-length-le 0 packetsMost starts (paths j) f g (omega arith),
+      digits-below-packets,
+      line-length letterT time (congestion j) (dilation j),
+      decimal-length-le 4 time (omega (arith, ends-le starts (paths j) f g)),
+      decimal-length-le 3 (congestion j) (omega (arith, congestion-le j)),
+      decimal-length-le 2 (dilation j) (omega (arith, dilation-le j g)),
+    )

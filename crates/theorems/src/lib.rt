@@ -1,0 +1,1 @@
+// What follows from the rules: theorems in proofs/, listed in docs/THEOREMS.md. No code.
