@@ -68,4 +68,3 @@ distinct-occurs (m ∷ ns) d n = go (eqb m n) refl (distinct-occurs ns (λ p q k
       where
         absent : among n ns ≡ true → ⊥
         absent h = let t = among-at n ns h in omega (arith, d 0 (suc (t .0)) n (ap {B = Option ℕ} some (eqb-true m n e)) (t .1))
-

@@ -3,7 +3,9 @@ use mathlib.Core.Path.{_≡_, refl, sym, _∙_}
 use mathlib.Core.Bool.{Bool, true, false, _&&_, _||_, or-true, or-false, or-assoc, false≢true, true≢false}
 use mathlib.Core.List.{List, [], _∷_, _++_, List·Memᴰ, List·Memᴰ·head as here, List·Memᴰ·tail as there}
 use Prim.Native.Nat.{ℕ, suc, _<_}
+use lib.Dec.{eqb}
 use lib.ListN.{length, getD, take}
+use borrow.Author.Tests.{eqb-true, eq-eqb}
 use lib.Seq.{take-suc}
 use Rattle.counting.specs.Count.{anyOf}
 
@@ -23,6 +25,9 @@ pub same-of-iff : (a b : Bool) → (a ≡ true → b ≡ true) → (b ≡ true �
 same-of-iff true b f g = sym (f refl)
 same-of-iff false true f g = g refl
 same-of-iff false false f g = refl
+
+pub eqb-comm : (a b : ℕ) → eqb a b ≡ eqb b a
+eqb-comm a b = same-of-iff _ _ (λ e. eq-eqb b a (sym (eqb-true a b e))) (λ e. eq-eqb a b (sym (eqb-true b a e)))
 
 pub and-left : (a b : Bool) → (a && b) ≡ true → a ≡ true
 and-left true b e = refl

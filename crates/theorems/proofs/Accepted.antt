@@ -2,7 +2,7 @@
 -- paths of it.
 use mathlib.Core.Path.{_≡_, refl, sym}
 use mathlib.Core.Bool.{true}
-use mathlib.Core.List.{List, [], _∷_}
+use mathlib.Core.List.{List, [], _∷_, List·Memᴰ}
 use mathlib.Core.Logic.{_↔_, Iff·trans, Iff·rfl}
 use mathlib.Core.Option.{some}
 use Prim.Native.Nat.{ℕ, zero, suc, _+_, _≤_, _<_}
@@ -10,7 +10,7 @@ use native.Mathlib.Omega.{arith}
 use lib.ListN.{length, getElem?}
 use lib.Seq.{length-slice}
 use Rattle.counting.specs.Count.{sumOf}
-use Rattle.counting.proofs.Places.{some-same, none-not-some}
+use Rattle.counting.proofs.Places.{some-same, none-not-some, mem-at, at-below, at-getD}
 use Rattle.rules.specs.Sizes.{nodesMost, linksMost, packetsMost, pathMost, hopsMost}
 use Rattle.rules.specs.Network.{Network, Job, pathsFrom, paths}
 use Rattle.rules.specs.Path.{IsPath}
@@ -127,3 +127,10 @@ hops-from a (e ∷ es) hops t =
 pub hops-in-all : (j : Job) → IsJob j → sumOf (λ p. length p) (paths j) ≡ length (j .hops)
 unfolding paths
 hops-in-all j h = omega (arith, hops-from 0 (j .stops) (j .hops) (h .stops-agree))
+
+-- whatever path a job has is a packet's
+pub packet-of-path : (j : Job) → IsJob j → {p : List ℕ} → List·Memᴰ p (paths j) → (source : ℕ) × IsPacket (j .network) source p
+packet-of-path j h {p} m =
+    let (k, e) = mem-at m in
+    let s = at-getD (j .sources) k 0 (omega (arith, at-below (paths j) k e, length-paths j, h .stops-count)) in
+    (_, h .packets k _ p s e)

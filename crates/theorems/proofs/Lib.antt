@@ -9,3 +9,6 @@ pub mod Accepted
 pub mod Bounds
 pub mod Numbers
 pub mod PlanLength
+pub mod Demands
+pub mod Leads
+pub mod Started

@@ -38,11 +38,14 @@ free-iff ps ss k p s = (
 
 pub starts-iff : (ps : List (List ℕ)) (ss : List ℕ) → Starts ps ss ↔ ((length ss ≡ length ps) × EachFirst [] (onPaths ss ps))
 starts-iff ps ss = (
-  λ st. (st .count, λ k b e. let r = on-paths-split ss ps k e in
-      rw (r .is-placed) (record {
-        free = free-iff ps ss k (r .path) (b .start) .0 (st .free k (r .path) (b .start) (r .is-path) (r .is-start));
-        least = λ t l. true-of-not-false _ (λ f. st .least k (r .path) (b .start) t (r .is-path) (r .is-start) l (free-iff ps ss k (r .path) t .1 f));
-      })),
+  λ st. (
+    st .count,
+    λ k b e. let r = on-paths-split ss ps k e in
+        rw (r .is-placed) (record {
+          free = free-iff ps ss k (r .path) (b .start) .0 (st .free k (r .path) (b .start) (r .is-path) (r .is-start));
+          least = λ t l. true-of-not-false _ (λ f. st .least k (r .path) (b .start) t (r .is-path) (r .is-start) l (free-iff ps ss k (r .path) t .1 f));
+        }),
+  ),
   λ h. record {
     count = h .0;
     free = λ k p s is-path is-start. free-iff ps ss k p s .1 (h .1 k (place s (linkClaims 0 p)) (on-paths-at ss ps k is-start is-path) .free);

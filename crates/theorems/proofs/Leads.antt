@@ -1,0 +1,155 @@
+-- The lead: its steps are those in which the packets enter the link, it lies from −33,021 to 33,021 and reaches both, it is
+-- zero exactly if the two steps are one, and from the other packet's side it is the opposite.
+use mathlib.Core.Path.{_≡_, refl, sym, ap, _∙_}
+use mathlib.Core.Bool.{Bool, true, false, not, cond, _||_}
+use mathlib.Core.List.{List, [], _∷_, _++_, List·Memᴰ}
+use mathlib.Core.Option.{Option, none, some}
+use mathlib.Core.Logic.{_↔_, _≢_}
+use Prim.Native.Nat.{ℕ, zero, suc, _+_, _-_, _≤_}
+use native.Mathlib.Omega.{arith}
+use lib.Dec.{eqb, ltb}
+use lib.ListN.{length, getElem?}
+use lib.IntN.{ℤ, pos, negsuc, negℤ, natAbs, _+ℤ_, _-ℤ_, +ℤ-invr, +ℤ-comm, negℤ-+ℤ, negℤ-negℤ, -ℤ-+ℤ-cancel}
+use borrow.Author.Tests.{eqb-true, ne-eqb, ltb-true}
+use Rattle.counting.specs.Count.{pick, among}
+use Rattle.counting.proofs.Tests.{eqb-comm}
+use Rattle.counting.proofs.Places.{some-same, none-not-some, at-below, at-mem}
+use Rattle.rules.specs.Sizes.{startMost, pathMost, leadMost}
+use Rattle.rules.specs.Network.{Job, linkAt, pathsFrom, paths}
+use Rattle.rules.specs.Outcome.{is, must, _then_, onward}
+use Rattle.rules.specs.Tables.{linkVerdict, walk, packetVerdict, linksVerdict, packetsVerdict, stopsAgree, tables}
+use Rattle.rules.specs.Claims.{linkClaims}
+use Rattle.rules.specs.Lead.{entryStep, leadOf, entryOf, entryAt, lead}
+use Rattle.rules.specs.Answers.{startsVerdict, startedVerdict, led}
+use Rattle.rules.specs.Plain.{Enters}
+use Rattle.theorems.proofs.Verdicts.{refused-not-is}
+
+entry-enters-from : (link s o : ℕ) (path : List ℕ) (t : ℕ) → entryStep link s (linkClaims o path) ≡ some t → Enters (s + o) path link t
+unfolding entryStep linkClaims
+entry-enters-from link s o [] t e = absurd (none-not-some e)
+entry-enters-from link s o (l ∷ ls) t e = go (eqb l link) refl e (entry-enters-from link s (suc o) ls t)
+  where
+    go : (b : Bool) → eqb l link ≡ b → pick b (some (s + o)) (entryStep link s (linkClaims (suc o) ls)) ≡ some t
+        → (entryStep link s (linkClaims (suc o) ls) ≡ some t → Enters (s + suc o) ls link t) → Enters (s + o) (l ∷ ls) link t
+    go true q e r = record { hop = 0; there = ap some (eqb-true l link q); then-step = omega (arith, some-same e) }
+    go false q e r = let later = r e in record { hop = suc (later .hop); there = later .there; then-step = omega (arith, later .then-step) }
+
+-- where there is an entry step, the packet enters the link in it
+pub entry-enters : (link s : ℕ) (path : List ℕ) (t : ℕ) → entryStep link s (linkClaims 0 path) ≡ some t → Enters s path link t
+entry-enters link s path t e =
+    let r = entry-enters-from link s 0 path t e in
+    record { hop = r .hop; there = r .there; then-step = omega (arith, r .then-step) }
+
+-- where there is none, the link is not on the path
+pub no-entry : (link s o : ℕ) (path : List ℕ) → entryStep link s (linkClaims o path) ≡ none → among link path ≡ false
+unfolding entryStep linkClaims
+no-entry link s o [] e = refl
+no-entry link s o (l ∷ ls) e = go (eqb l link) e (no-entry link s (suc o) ls)
+  where
+    go : (b : Bool) → pick b (some (s + o)) (entryStep link s (linkClaims (suc o) ls)) ≡ none
+        → (entryStep link s (linkClaims (suc o) ls) ≡ none → among link ls ≡ false) → (b || among link ls) ≡ false
+    go true e r = absurd (none-not-some (sym e))
+    go false e r = r e
+
+-- packet k has a start and a path, and enters the link in the step
+pub record EntersAt (starts : List ℕ) (ps : List (List ℕ)) (link k step : ℕ) : Type 0 where
+  pub start : ℕ
+  pub path : List ℕ
+  pub is-start : getElem? starts k ≡ some start
+  pub is-path : getElem? ps k ≡ some path
+  pub enters : Enters start path link step
+
+pub entry-at-enters : (starts : List ℕ) (ps : List (List ℕ)) (link k : ℕ) {x : ℕ} → entryAt starts ps link k ≡ some x → EntersAt starts ps link k x
+unfolding entryAt
+entry-at-enters starts ps link k {x} e = go (getElem? starts k) (getElem? ps k) refl refl e
+  where
+    go : (s : Option ℕ) (p : Option (List ℕ)) → getElem? starts k ≡ s → getElem? ps k ≡ p → entryOf link s p ≡ some x → EntersAt starts ps link k x
+    go none p f g e = absurd (none-not-some e)
+    go (some s) none f g e = absurd (none-not-some e)
+    go (some s) (some p) f g e = record { start = s; path = p; is-start = f; is-path = g; enters = entry-enters link s p x e }
+
+-- the last hop of the longest path after the latest start
+entry-at-le : (starts : List ℕ) (ps : List (List ℕ)) (link k : ℕ) {x : ℕ} → ((s : ℕ) → List·Memᴰ s starts → s ≤ startMost)
+    → ((p : List ℕ) → List·Memᴰ p ps → length p ≤ pathMost) → entryAt starts ps link k ≡ some x → x ≤ leadMost
+entry-at-le starts ps link k f g e =
+    let r = entry-at-enters starts ps link k e in
+    omega (
+      arith,
+      f (r .start) (at-mem starts k (r .is-start)),
+      g (r .path) (at-mem ps k (r .is-path)),
+      at-below (r .path) (r .enters .hop) (r .enters .there),
+      r .enters .then-step,
+    )
+
+-- where there is a lead, both packets enter the link, and it is the difference of their steps
+lead-of-entries : (t : Bool) (m n : Option ℕ) (z : ℤ) → must t 13 0 then leadOf m n ≡ is z
+    → (x : ℕ) × (y : ℕ) × (m ≡ some x) × (n ≡ some y) × (pos x -ℤ pos y ≡ z)
+lead-of-entries true none n z e = absurd (refused-not-is e)
+lead-of-entries true (some x) none z e = absurd (refused-not-is e)
+lead-of-entries true (some x) (some y) z e = (x, y, refl, refl, cc)
+lead-of-entries false m n z e = absurd (refused-not-is e)
+
+abs-sub-le : (x y n : ℕ) → x ≤ n → y ≤ n → natAbs (pos x -ℤ pos y) ≤ n
+abs-sub-le x zero n h l = omega arith
+abs-sub-le x (suc y) n h l = go (ltb x (suc y)) refl
+  where
+    go : (b : Bool) → ltb x (suc y) ≡ b → natAbs (cond b (negsuc (suc y - suc x)) (pos (x - suc y))) ≤ n
+    go true e = omega (arith, ltb-true x (suc y) e)
+    go false e = omega arith
+
+-- no lead is below −33,021 or above 33,021
+pub lead-in-range : (starts : List ℕ) (ps : List (List ℕ)) → ((s : ℕ) → List·Memᴰ s starts → s ≤ startMost)
+    → ((p : List ℕ) → List·Memᴰ p ps → length p ≤ pathMost) → (a b link : ℕ) (z : ℤ) → lead starts ps a b link ≡ is z → natAbs z ≤ leadMost
+unfolding lead
+lead-in-range starts ps f g a b link z e =
+    let (x, y, p, q, d) = lead-of-entries (not (eqb a b)) _ _ z e in
+    rw (← d) (abs-sub-le x y leadMost (entry-at-le starts ps link a f g p) (entry-at-le starts ps link b f g q))
+
+lead-of-zero-iff : (x y : ℕ) → (leadOf (some x) (some y) ≡ is (pos 0)) ↔ (x ≡ y)
+lead-of-zero-iff x y = (to, λ e. rw e (ap is (+ℤ-invr (pos y))))
+  where
+    to : is (pos x -ℤ pos y) ≡ is (pos 0) → x ≡ y
+    to e =
+        let d : pos x -ℤ pos y ≡ pos 0 = cc in
+        omega (arith, ap natAbs (sym (-ℤ-+ℤ-cancel (pos x) (pos y)) ∙ ap (λ z. z +ℤ pos y) d))
+
+-- the lead is zero exactly if both packets enter the link in one step
+pub lead-zero-iff : (starts : List ℕ) (ps : List (List ℕ)) (a b link : ℕ) {x y : ℕ} → entryAt starts ps link a ≡ some x
+    → entryAt starts ps link b ≡ some y → a ≢ b → (lead starts ps a b link ≡ is (pos 0)) ↔ (x ≡ y)
+unfolding lead
+lead-zero-iff starts ps a b link {x} {y} p q d = rw (ne-eqb a b d, p, q) (lead-of-zero-iff x y)
+
+sub-opposite : (x y : ℕ) → negℤ (pos x -ℤ pos y) ≡ pos y -ℤ pos x
+sub-opposite x y = rw (negℤ-+ℤ, negℤ-negℤ) (+ℤ-comm (negℤ (pos x)) (pos y))
+
+lead-of-opposite : (t : Bool) (m n : Option ℕ) → must t 13 0 then leadOf n m ≡ onward (must t 13 0 then leadOf m n) (λ z. is (negℤ z))
+lead-of-opposite true none none = refl
+lead-of-opposite true none (some y) = refl
+lead-of-opposite true (some x) none = refl
+lead-of-opposite true (some x) (some y) = ap is (sym (sub-opposite x y))
+lead-of-opposite false m n = refl
+
+-- the lead of b over a is the opposite of that of a over b, and refused where that is
+pub lead-opposite : (starts : List ℕ) (ps : List (List ℕ)) (a b link : ℕ) → lead starts ps b a link ≡ onward (lead starts ps a b link) (λ z. is (negℤ z))
+unfolding lead
+lead-opposite starts ps a b link = rw (eqb-comm b a) (lead-of-opposite (not (eqb a b)) (entryAt starts ps link a) (entryAt starts ps link b))
+
+-- the numbers i, i + 1, .., n of them
+abbrev pub upFrom : ℕ → ℕ → List ℕ
+upFrom i zero = []
+upFrom i (suc n) = i ∷ upFrom (suc i) n
+
+-- a line of 256 nodes, one packet over all its links and one over the last alone
+unfoldable pub longLine : Job
+longLine =
+    record {
+      network = record { nodes = 256; origins = upFrom 0 255; ends = upFrom 1 255 };
+      sources = 0 ∷ 254 ∷ [];
+      stops = 255 ∷ 256 ∷ [];
+      hops = upFrom 0 255 ++ (254 ∷ []);
+    }
+
+-- an accepted job with the greatest lead and the least
+pub lead-ends-reached : (led longLine (32767 ∷ 0 ∷ []) 0 1 254 ≡ is (pos 33021)) × (led longLine (32767 ∷ 0 ∷ []) 1 0 254 ≡ is (negsuc 33020))
+unfolding longLine linkAt pathsFrom paths linkVerdict walk packetVerdict linksVerdict packetsVerdict stopsAgree tables linkClaims entryStep entryAt lead startsVerdict startedVerdict led
+lead-ends-reached = (refl, refl)

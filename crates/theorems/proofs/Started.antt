@@ -1,0 +1,70 @@
+-- Jobs with starts made elsewhere: what is accepted, how long its plan's text is, and how far a lead goes.
+use mathlib.Core.Path.{_≡_, refl}
+use mathlib.Core.List.{List, [], _∷_, List·Memᴰ, List·Memᴰ·not-nil, List·Memᴰ·head as here, List·Memᴰ·tail as there}
+use mathlib.Core.Logic.{_↔_, Iff·trans}
+use Prim.Native.Nat.{ℕ, suc, _≤_}
+use native.Mathlib.Omega.{arith}
+use lib.IntN.{ℤ, natAbs}
+use lib.ListN.{length}
+use Rattle.counting.proofs.Places.{mem-at}
+use Rattle.rules.specs.Sizes.{packetsMost, pathMost, startMost, planMost, leadMost}
+use Rattle.rules.specs.Network.{Job, paths}
+use Rattle.rules.specs.Outcome.{is, fine}
+use Rattle.rules.specs.Tables.{tables}
+use Rattle.rules.specs.Greedy.{greedy}
+use Rattle.rules.specs.PlanText.{planText}
+use Rattle.rules.specs.Answers.{startsVerdict, startedVerdict, led}
+use Rattle.theorems.proofs.Verdicts.{leb-iff, eqb-iff, must-iff, then-iff, then-is-iff}
+use Rattle.theorems.proofs.Accepted.{IsJob, tables-fine-iff, length-paths, packet-of-path}
+use Rattle.theorems.proofs.PlanLength.{plan-length-le}
+use Rattle.theorems.proofs.Leads.{lead-in-range}
+use Rattle.theorems.proofs.Starts.{length-greedy}
+use Rattle.theorems.proofs.Demands.{job-bounded}
+
+-- a job and a start for each of its packets, none too late
+pub record IsStarted (j : Job) (starts : List ℕ) : Type 0 where
+  pub job : IsJob j
+  pub count : length starts ≡ length (j .sources)
+  pub in-time : (s : ℕ) → List·Memᴰ s starts → s ≤ startMost
+
+starts-fine-iff : (k : ℕ) (ss : List ℕ) → (startsVerdict k ss ≡ fine) ↔ ((s : ℕ) → List·Memᴰ s ss → s ≤ startMost)
+unfolding startsVerdict
+starts-fine-iff k [] = (λ e s m. absurd (List·Memᴰ·not-nil m), λ h. refl)
+starts-fine-iff k (s ∷ ss) = Iff·trans (then-iff (must-iff _ _ (leb-iff s startMost)) (starts-fine-iff (suc k) ss)) (both, λ h. (h s (here refl), λ t m. h t (there m)))
+  where
+    both : (s ≤ startMost) × ((t : ℕ) → List·Memᴰ t ss → t ≤ startMost) → (t : ℕ) → List·Memᴰ t (s ∷ ss) → t ≤ startMost
+    both h t (here e) = rw e (h .0)
+    both h t (there m) = h .1 t m
+
+pub started-fine-iff : (j : Job) (starts : List ℕ) → (startedVerdict j starts ≡ fine) ↔ IsStarted j starts
+unfolding startedVerdict
+started-fine-iff j starts =
+    Iff·trans (then-iff (tables-fine-iff j) (then-iff (must-iff _ _ (eqb-iff _ _)) (starts-fine-iff 0 starts)))
+    (λ t. record { job = t .0; count = t .1 .0; in-time = t .1 .1 }, λ h. (h .job, (h .count, h .in-time)))
+
+-- every path of an accepted job is short enough
+paths-short : (j : Job) → IsJob j → (p : List ℕ) → List·Memᴰ p (paths j) → length p ≤ pathMost
+paths-short j job p m = packet-of-path j job m .1 .short
+
+pub started-plan-length : (j : Job) (starts : List ℕ) → startedVerdict j starts ≡ fine → length (planText j starts) ≤ planMost
+started-plan-length j starts e =
+    let h = started-fine-iff j starts .0 e in
+    let job = h .job in
+    plan-length-le j starts (omega (arith, h .count, job .packets-most)) (h .in-time) (paths-short j job) (omega (arith, length-paths j, job .stops-count, job .packets-most))
+
+-- the greedy starts are in time, so they are starts that the check, the lead and the writer take
+pub greedy-started : (j : Job) → tables j ≡ fine → startedVerdict j (greedy j) ≡ fine
+greedy-started j e =
+    let job = tables-fine-iff j .0 e in
+    started-fine-iff j (greedy j) .1 (record {
+      job = job;
+      count = omega (arith, length-greedy j, length-paths j, job .stops-count);
+      in-time = λ s m. let (k, at) = mem-at m in omega (arith, job-bounded j job .start-le-most k s at);
+    })
+
+pub led-in-range : (j : Job) (starts : List ℕ) (a b link : ℕ) (z : ℤ) → led j starts a b link ≡ is z → natAbs z ≤ leadMost
+unfolding led
+led-in-range j starts a b link z e =
+    let (v, l) = then-is-iff (startedVerdict j starts) _ z .0 e in
+    let h = started-fine-iff j starts .0 v in
+    lead-in-range starts (paths j) (h .in-time) (paths-short j (h .job)) a b link z l

@@ -1,0 +1,16 @@
+-- What the owner's third demand says of a job with its greedy starts.
+use mathlib.Core.Path.{_≡_}
+use mathlib.Core.List.{List}
+use mathlib.Core.Option.{some}
+use Prim.Native.Nat.{ℕ, _*_, _≤_}
+use lib.ListN.{getElem?}
+use Rattle.rules.specs.Sizes.{startFoundMost}
+use Rattle.rules.specs.Network.{Job, paths}
+use Rattle.rules.specs.Greedy.{greedy}
+use Rattle.rules.specs.Counts.{endOf, routingTime, congestion, dilation, meetings}
+
+pub record Bounded (j : Job) : Type 0 where
+  pub start-le-meetings : (k s m : ℕ) → getElem? (greedy j) k ≡ some s → getElem? (meetings j) k ≡ some m → s ≤ m
+  pub start-le-most : (k s : ℕ) → getElem? (greedy j) k ≡ some s → s ≤ startFoundMost
+  pub end-le-product : (k s : ℕ) (p : List ℕ) → getElem? (greedy j) k ≡ some s → getElem? (paths j) k ≡ some p → endOf s p ≤ congestion j * dilation j
+  pub routing-time-le-product : routingTime (greedy j) (paths j) ≤ congestion j * dilation j
