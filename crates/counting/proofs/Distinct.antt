@@ -2,9 +2,9 @@
 use mathlib.Core.Path.{_≡_, refl, sym, ap, _∙_}
 use mathlib.Core.Bool.{Bool, true, false}
 use mathlib.Core.List.{List, [], _∷_, _++_}
-use mathlib.Core.Logic.{_⊎_, inl, inr, ⊎-map}
-use mathlib.Core.Option.{Option, none, some}
-use Prim.Native.Nat.{ℕ, zero, suc, _+_, _≤_, _<_}
+use mathlib.Core.Logic.{_⊎_, inl, inr}
+use mathlib.Core.Option.{Option, some}
+use Prim.Native.Nat.{ℕ, suc, _+_, _≤_}
 use native.Mathlib.Omega.{arith}
 use native.Mathlib.Nat.{suc-inj}
 use lib.Dec.{eqb}
@@ -14,14 +14,7 @@ use Rattle.counting.specs.Count.{among, bit}
 use Rattle.counting.proofs.Tests.{any-mem, any-true, false-of-not-true, never-both}
 use Rattle.counting.proofs.Sums.{sum-le-any}
 use Rattle.counting.proofs.Hits.{occurs}
-use Rattle.counting.proofs.Places.{some-same, at-below, at-mem, mem-at, at-append-left, at-append-seam}
-
--- what stands in a list with one more at its end
-pub at-snoc : {A : Type 0} (xs : List A) (y : A) (i : ℕ) {x : A} → getElem? (xs ++ (y ∷ [])) i ≡ some x → (getElem? xs i ≡ some x) ⊎ ((i ≡ length xs) × (y ≡ x))
-at-snoc [] y zero e = inr (refl, some-same e)
-at-snoc [] y (suc i) e = inl e
-at-snoc (z ∷ xs) y zero e = inl e
-at-snoc (z ∷ xs) y (suc i) e = ⊎-map (λ a. a) (λ b. (ap suc (b .0), b .1)) (at-snoc xs y i e)
+use Rattle.counting.proofs.Places.{at-below, at-mem, mem-at, at-append-left, at-append-seam, at-snoc}
 
 -- no number stands at two places
 abbrev pub Distinct : List ℕ → Type 0
@@ -49,6 +42,7 @@ distinct-snoc ns n d new p q m a b = go (at-snoc ns n p a) (at-snoc ns n q b)
     go (inr a) (inl b) = absurd (old q b (a .1))
     go (inr a) (inr b) = a .0 ∙ sym (b .0)
 
+-- what follows is not among what goes before
 pub distinct-new : (ns : List ℕ) (n : ℕ) (ms : List ℕ) → Distinct (ns ++ n ∷ ms) → among n ns ≡ false
 distinct-new ns n ms d = false-of-not-true (among n ns) twice
   where
@@ -67,4 +61,5 @@ distinct-occurs (m ∷ ns) d n = go (eqb m n) refl (distinct-occurs ns (λ p q k
     go true e r = omega (arith, sum-le-any (λ k. eqb k n) ns r, ap bit (false-of-not-true (among n ns) absent))
       where
         absent : among n ns ≡ true → ⊥
-        absent h = let t = among-at n ns h in omega (arith, d 0 (suc (t .0)) n (ap {B = Option ℕ} some (eqb-true m n e)) (t .1))
+        absent h = let (i, at) = among-at n ns h in omega (arith, d 0 (suc i) n (ap {B = Option ℕ} some (eqb-true m n e)) at)
+

@@ -1,6 +1,7 @@
 -- Laws of what stands at a place of a list, if anything does.
 use mathlib.Core.Path.{_≡_, refl, sym, ap, _∙_}
 use mathlib.Core.List.{List, [], _∷_, _++_, map, Memᴰ·append-left, List·Memᴰ, List·Memᴰ·head as here, List·Memᴰ·tail as there}
+use mathlib.Core.Logic.{_⊎_, inl, inr, ⊎-map}
 use mathlib.Core.Option.{Option, none, some}
 use Prim.Native.Nat.{ℕ, zero, suc, _+_, _≤_, _<_}
 use native.Mathlib.Omega.{arith}
@@ -58,6 +59,13 @@ module _ {A : Type 0} where
   pub at-append-seam : (xs : List A) (y : A) (ys : List A) → getElem? (xs ++ y ∷ ys) (length xs) ≡ some y
   at-append-seam [] y ys = refl
   at-append-seam (x ∷ xs) y ys = at-append-seam xs y ys
+
+-- what stands in a list with one more at its end
+pub at-snoc : {A : Type 0} (xs : List A) (y : A) (i : ℕ) {x : A} → getElem? (xs ++ (y ∷ [])) i ≡ some x → (getElem? xs i ≡ some x) ⊎ ((i ≡ length xs) × (y ≡ x))
+at-snoc [] y zero e = inr (refl, some-same e)
+at-snoc [] y (suc i) e = inl e
+at-snoc (z ∷ xs) y zero e = inl e
+at-snoc (z ∷ xs) y (suc i) e = ⊎-map (λ a. a) (λ b. (ap suc (b .0), b .1)) (at-snoc xs y i e)
 
 pub at-map : {A B : Type 0} (f : A → B) (xs : List A) (i : ℕ) {x : A} → getElem? xs i ≡ some x → getElem? (map f xs) i ≡ some (f x)
 at-map f [] i e = absurd (none-not-some e)

@@ -2,15 +2,15 @@
 -- paths of it.
 use mathlib.Core.Path.{_≡_, refl, sym}
 use mathlib.Core.Bool.{true}
-use mathlib.Core.List.{List, [], _∷_, List·Memᴰ}
-use mathlib.Core.Logic.{_↔_, Iff·trans, Iff·rfl}
+use mathlib.Core.List.{List, [], _∷_, _++_, List·Memᴰ}
+use mathlib.Core.Logic.{_↔_, _⊎_, inl, inr, Iff·trans, Iff·rfl}
 use mathlib.Core.Option.{some}
 use Prim.Native.Nat.{ℕ, zero, suc, _+_, _≤_, _<_}
 use native.Mathlib.Omega.{arith}
-use lib.ListN.{length, getElem?}
+use lib.ListN.{length, getD, getElem?}
 use lib.Seq.{length-slice}
 use Rattle.counting.specs.Count.{sumOf}
-use Rattle.counting.proofs.Places.{some-same, none-not-some, mem-at, at-below, at-getD}
+use Rattle.counting.proofs.Places.{some-same, none-not-some, at-below, at-getD, at-snoc, mem-at}
 use Rattle.rules.specs.Sizes.{nodesMost, linksMost, packetsMost, pathMost, hopsMost}
 use Rattle.rules.specs.Network.{Network, Job, pathsFrom, paths}
 use Rattle.rules.specs.Path.{IsPath}
@@ -31,6 +31,15 @@ module _ {A B : Type 0} (P : A → B → Type 0) where
       to t zero u v a b = rw (← some-same a, ← some-same b) (t .0)
       to t (suc i) u v a b = t .1 i u v a b
 
+  pub at-each-snoc : (xs : List A) {x : A} (ys : List B) {y : B} → length xs ≡ length ys → AtEach P xs ys → P x y → AtEach P (xs ++ (x ∷ [])) (ys ++ (y ∷ []))
+  at-each-snoc xs {x} ys {y} e h new i u v a b = go (at-snoc xs x i a) (at-snoc ys y i b)
+    where
+      go : (getElem? xs i ≡ some u) ⊎ ((i ≡ length xs) × (x ≡ u)) → (getElem? ys i ≡ some v) ⊎ ((i ≡ length ys) × (y ≡ v)) → P u v
+      go (inl a) (inl b) = h i u v a b
+      go (inl a) (inr b) = absurd (omega (arith, at-below xs i a, b .0))
+      go (inr a) (inl b) = absurd (omega (arith, at-below ys i b, a .0))
+      go (inr a) (inr b) = rw (← a .1, ← b .1) new
+
 -- a link of a network with so many nodes
 pub record IsLink (nodes from to : ℕ) : Type 0 where
   pub from-node : from < nodes
@@ -43,7 +52,7 @@ pub record IsPacket (net : Network) (source : ℕ) (path : List ℕ) : Type 0 wh
   pub source-node : source < net .nodes
   pub on-path : IsPath net source path
 
--- an accepted job
+-- a job that is accepted
 pub record IsJob (j : Job) : Type 0 where
   pub ends-count : length (j .network .ends) ≡ length (j .network .origins)
   pub stops-count : length (j .stops) ≡ length (j .sources)
@@ -60,13 +69,13 @@ pub link-fine-iff : (nodes place from to : ℕ) → (linkVerdict nodes place fro
 unfolding linkVerdict
 link-fine-iff nodes place from to =
     Iff·trans (then-iff (must-iff _ _ (leb-iff _ _)) (then-iff (must-iff _ _ (leb-iff _ _)) (must-iff _ _ (not-iff (eqb-iff _ _)))))
-    (λ t. record { from-node = t .0; to-node = t .1 .0; apart = t .1 .1 }, λ h. (h .from-node, (h .to-node, h .apart)))
+    (λ (from-node, (to-node, apart)). record { from-node = from-node; to-node = to-node; apart = apart }, λ h. (h .from-node, (h .to-node, h .apart)))
 
 pub packet-fine-iff : (net : Network) (place source : ℕ) (path : List ℕ) → (packetVerdict net place source path ≡ fine) ↔ IsPacket net source path
 unfolding packetVerdict
 packet-fine-iff net place source path =
     Iff·trans (then-iff (must-iff _ _ (leb-iff _ _)) (then-iff (must-iff _ _ (leb-iff _ _)) (walk-fine-iff net place source path)))
-    (λ t. record { short = t .0; source-node = t .1 .0; on-path = t .1 .1 }, λ h. (h .short, (h .source-node, h .on-path)))
+    (λ (short, (source-node, on-path)). record { short = short; source-node = source-node; on-path = on-path }, λ h. (h .short, (h .source-node, h .on-path)))
 
 links-fine-iff : (nodes k : ℕ) (os es : List ℕ) → (linksVerdict nodes k os es ≡ fine) ↔ AtEach (IsLink nodes) os es
 unfolding linksVerdict
@@ -92,17 +101,17 @@ tables-fine-iff j =
     (then-iff (must-iff _ _ (leb-iff _ _))
     (then-iff (must-iff _ _ (leb-iff _ _))
     (then-iff (links-fine-iff _ 0 (j .network .origins) (j .network .ends)) (packets-fine-iff (j .network) 0 (j .sources) (paths j)))))))))) (
-      λ t. record {
-        ends-count = sym (t .0);
-        stops-count = sym (t .1 .0);
-        stops-agree = t .1 .1 .0;
-        nodes-least = t .1 .1 .1 .0 .0;
-        nodes-most = t .1 .1 .1 .0 .1;
-        links-most = t .1 .1 .1 .1 .0;
-        packets-most = t .1 .1 .1 .1 .1 .0;
-        hops-most = t .1 .1 .1 .1 .1 .1 .0;
-        links = t .1 .1 .1 .1 .1 .1 .1 .0;
-        packets = t .1 .1 .1 .1 .1 .1 .1 .1;
+      λ (ends, (stops, (agree, ((least, most), (links, (packets, (hops, (each-link, each-packet)))))))). record {
+        ends-count = sym ends;
+        stops-count = sym stops;
+        stops-agree = agree;
+        nodes-least = least;
+        nodes-most = most;
+        links-most = links;
+        packets-most = packets;
+        hops-most = hops;
+        links = each-link;
+        packets = each-packet;
       },
       λ h. (sym (h .ends-count), (sym (h .stops-count), (h .stops-agree, ((h .nodes-least, h .nodes-most), (h .links-most, (h .packets-most, (h .hops-most, (h .links, h .packets)))))))),
     )
@@ -116,6 +125,7 @@ pub length-paths : (j : Job) → length (paths j) ≡ length (j .stops)
 unfolding paths
 length-paths j = length-paths-from 0 (j .stops) (j .hops)
 
+-- the paths that go on from hop a have all hops but the first a
 pub hops-from : (a : ℕ) (stops hops : List ℕ) → stopsAgree a stops (length hops) ≡ true → sumOf (λ p. length p) (pathsFrom a stops hops) + a ≡ length hops
 unfolding pathsFrom stopsAgree
 hops-from a [] hops t = omega (arith, eqb-iff a (length hops) .0 t)
@@ -128,9 +138,9 @@ pub hops-in-all : (j : Job) → IsJob j → sumOf (λ p. length p) (paths j) ≡
 unfolding paths
 hops-in-all j h = omega (arith, hops-from 0 (j .stops) (j .hops) (h .stops-agree))
 
--- whatever path a job has is a packet's
-pub packet-of-path : (j : Job) → IsJob j → {p : List ℕ} → List·Memᴰ p (paths j) → (source : ℕ) × IsPacket (j .network) source p
-packet-of-path j h {p} m =
+-- every path of an accepted job is some packet's
+pub job-path : (j : Job) → IsJob j → {path : List ℕ} → List·Memᴰ path (paths j) → (source : ℕ) × IsPacket (j .network) source path
+job-path j h m =
     let (k, e) = mem-at m in
-    let s = at-getD (j .sources) k 0 (omega (arith, at-below (paths j) k e, length-paths j, h .stops-count)) in
-    (_, h .packets k _ p s e)
+    let l : k < length (j .sources) = omega (arith, at-below (paths j) k e, length-paths j, h .stops-count) in
+    (getD (j .sources) k 0, h .packets k _ _ (at-getD (j .sources) k 0 l) e)

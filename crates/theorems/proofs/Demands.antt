@@ -17,14 +17,14 @@ use Rattle.theorems.specs.Demands.{Bounded}
 use Rattle.theorems.proofs.OnPaths.{onPaths, on-paths-at, take-placed}
 use Rattle.theorems.proofs.Starts.{length-greedy, greedy-first}
 use Rattle.theorems.proofs.Paths.{path-links-exist, path-once}
-use Rattle.theorems.proofs.Accepted.{IsJob, tables-fine-iff, hops-in-all, packet-of-path}
+use Rattle.theorems.proofs.Accepted.{IsJob, tables-fine-iff, hops-in-all, job-path}
 use Rattle.theorems.proofs.Bounds.{Simple, start-le-meetings-with, end-le-product, routing-time-le, meetings-at, meetings-le-hops, sum-take-le}
 
 module _ (j : Job) (job : IsJob j) where
   -- every packet of the job is on a path
   packets-simple : (p : List ℕ) → List·Memᴰ p (paths j) → Simple (linkCount j) p
   packets-simple p m =
-      let path = packet-of-path j job m .1 .on-path in
+      let path = job-path j job m .1 .on-path in
       record { below = λ l i. path-links-exist path i; once = path-once path }
 
   -- each start is the first free step after the packets before

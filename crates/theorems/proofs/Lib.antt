@@ -6,9 +6,11 @@ pub mod OnPaths
 pub mod Starts
 pub mod Paths
 pub mod Accepted
+pub mod TextJobs
 pub mod Bounds
 pub mod Numbers
 pub mod PlanLength
 pub mod Demands
 pub mod Leads
 pub mod Started
+pub mod TextFronts

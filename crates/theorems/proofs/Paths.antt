@@ -39,8 +39,8 @@ hop-of-fine : (place reached : ℕ) (seen : List ℕ) (o e : Option ℕ) (rest :
 hop-of-fine place reached seen none e rest h = absurd (refused-not-is h)
 hop-of-fine place reached seen (some o) none rest h = absurd (refused-not-is h)
 hop-of-fine place reached seen (some o) (some e) rest h =
-    let t = then-iff (must-iff _ _ (eqb-iff o reached)) (then-iff (must-iff _ _ (not-true-iff (among e seen))) Iff·rfl) .0 h in
-    record { node = e; leaves = ap {B = Option ℕ} some (t .0); enters = refl; new = t .1 .0; onwards = t .1 .1 }
+    let (same, (new, onwards)) = then-iff (must-iff _ _ (eqb-iff o reached)) (then-iff (must-iff _ _ (not-true-iff (among e seen))) Iff·rfl) .0 h in
+    record { node = e; leaves = ap {B = Option ℕ} some same; enters = refl; new = new; onwards = onwards }
 
 fine-of-hop : (place reached : ℕ) (seen : List ℕ) (o e : Option ℕ) (rest : ℕ → Verdict) → Hop reached seen o e rest → hopVerdict place reached seen (linkOf o e) rest ≡ fine
 fine-of-hop place reached seen o e rest h = rw (h .leaves, h .enters, eq-eqb reached reached refl, h .new) (h .onwards)

@@ -15,7 +15,7 @@ use Rattle.rules.specs.Greedy.{greedy}
 use Rattle.rules.specs.PlanText.{planText}
 use Rattle.rules.specs.Answers.{startsVerdict, startedVerdict, led}
 use Rattle.theorems.proofs.Verdicts.{leb-iff, eqb-iff, must-iff, then-iff, then-is-iff}
-use Rattle.theorems.proofs.Accepted.{IsJob, tables-fine-iff, length-paths, packet-of-path}
+use Rattle.theorems.proofs.Accepted.{IsJob, tables-fine-iff, length-paths, job-path}
 use Rattle.theorems.proofs.PlanLength.{plan-length-le}
 use Rattle.theorems.proofs.Leads.{lead-in-range}
 use Rattle.theorems.proofs.Starts.{length-greedy}
@@ -44,7 +44,7 @@ started-fine-iff j starts =
 
 -- every path of an accepted job is short enough
 paths-short : (j : Job) → IsJob j → (p : List ℕ) → List·Memᴰ p (paths j) → length p ≤ pathMost
-paths-short j job p m = packet-of-path j job m .1 .short
+paths-short j job p m = job-path j job m .1 .short
 
 pub started-plan-length : (j : Job) (starts : List ℕ) → startedVerdict j starts ≡ fine → length (planText j starts) ≤ planMost
 started-plan-length j starts e =
