@@ -2,11 +2,11 @@
 use mathlib.Core.Path.{_≡_, refl, ap}
 use mathlib.Core.Bool.{Bool, true, false, _||_}
 use mathlib.Core.List.{List, [], _∷_, _++_, List·Memᴰ, List·Memᴰ·head as here, List·Memᴰ·tail as there}
-use Prim.Native.Nat.{ℕ, zero, suc, _+_, _*_, _≤_, _<_, max}
+use Prim.Native.Nat.{ℕ, _+_, _*_, _≤_}
 use native.Mathlib.Nat.{mul-suc}
 use native.Mathlib.Omega.{arith}
 use lib.ListN.{length}
-use Rattle.counting.specs.Count.{bit, anyOf, sumOf, maxOf, sumBelow, maxBelow}
+use Rattle.counting.specs.Count.{bit, anyOf, sumOf, maxOf}
 
 pub bit-or : (a b : Bool) → bit (a || b) ≤ bit a + bit b
 bit-or true b = omega arith

@@ -1,10 +1,10 @@
 -- Document 01, "Refusals and their order", Check: clear, or the clash that is shown.
 use mathlib.Core.List.{List, [], _∷_, _++_}
 use mathlib.Core.Option.{Option, none, some}
-use Prim.Native.Nat.{ℕ, zero, suc, _+_}
+use Prim.Native.Nat.{ℕ, suc, _+_}
 use lib.ListN.{length}
 use Rattle.counting.specs.Count.{pick}
-use Rattle.rules.specs.Claims.{Claim, Placed, place, takes}
+use Rattle.rules.specs.Claims.{Claim, Placed, takes}
 
 pub record Clash : Type 0 where
   pub later : ℕ

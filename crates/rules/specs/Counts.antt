@@ -1,5 +1,5 @@
 -- Document 01, "The network and its steps": ends, routing time, C, D and meetings. All over paths, none over claims.
-use mathlib.Core.Bool.{Bool, _&&_}
+use mathlib.Core.Bool.{_&&_}
 use mathlib.Core.List.{List, [], _∷_, _++_}
 use Prim.Native.Nat.{ℕ, _+_, max}
 use lib.ListN.{length}

@@ -8,7 +8,7 @@ use lib.Dec.{eqb, ltb, leb}
 use lib.ListN.{length}
 use Rattle.counting.specs.Count.{pick}
 use Rattle.rules.specs.Sizes.{textMost, nodesMost, linksMost, packetsMost, hopsMost}
-use Rattle.rules.specs.Network.{Network, Job}
+use Rattle.rules.specs.Network.{Job}
 use Rattle.rules.specs.Outcome.{Outcome, is, refused, must, _then_, onward}
 use Rattle.rules.specs.Tables.{linkVerdict, packetVerdict}
 use Rattle.rules.specs.Bytes.{tab, lineFeed, letterL, letterN, letterP, numbersOf, split}

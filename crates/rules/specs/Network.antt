@@ -3,7 +3,7 @@
 use mathlib.Core.List.{List, [], _∷_}
 use mathlib.Core.Option.{Option, none, some}
 use Prim.Native.Nat.{ℕ}
-use lib.ListN.{length, getElem?}
+use lib.ListN.{getElem?}
 use lib.Seq.{slice}
 
 pub record Network : Type 0 where

@@ -29,19 +29,19 @@ pub record Starts (ps : List (List ℕ)) (ss : List ℕ) : Type 0 where
   pub free : (k : ℕ) (p : List ℕ) (s : ℕ) → getElem? ps k ≡ some p → getElem? ss k ≡ some s → Free ps ss k p s
   pub least : (k : ℕ) (p : List ℕ) (s t : ℕ) → getElem? ps k ≡ some p → getElem? ss k ≡ some s → t < s → Free ps ss k p t → ⊥
 
--- packet k conflicts with packet e, listed before it, on the link in the step
+-- packet k, of these paths and starts, enters the link in the step
+pub record EntersAt (ps : List (List ℕ)) (ss : List ℕ) (k link step : ℕ) : Type 0 where
+  pub path : List ℕ
+  pub start : ℕ
+  pub is-path : getElem? ps k ≡ some path
+  pub is-start : getElem? ss k ≡ some start
+  pub enters : Enters start path link step
+
+-- so do packet k and packet e, listed before it
 pub record ConflictAt (ps : List (List ℕ)) (ss : List ℕ) (k e link step : ℕ) : Type 0 where
   pub before : e < k
-  pub start-k : ℕ
-  pub start-e : ℕ
-  pub path-k : List ℕ
-  pub path-e : List ℕ
-  pub is-start-k : getElem? ss k ≡ some start-k
-  pub is-start-e : getElem? ss e ≡ some start-e
-  pub is-path-k : getElem? ps k ≡ some path-k
-  pub is-path-e : getElem? ps e ≡ some path-e
-  pub enters-k : Enters start-k path-k link step
-  pub enters-e : Enters start-e path-e link step
+  pub later : EntersAt ps ss k link step
+  pub earlier : EntersAt ps ss e link step
 
 -- the clash that the check shows: the lowest k; its first conflicting hop, which on a path is its earliest such step; the
 -- lowest e there

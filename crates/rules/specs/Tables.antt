@@ -1,6 +1,6 @@
 -- Document 01, "Refusals and their order": which lists are a job, and else which refusal, in the order of its paragraph on
 -- tables. The refusals of one link and of one packet serve job text too: there the place is the line.
-use mathlib.Core.Bool.{Bool, true, false, not, _&&_}
+use mathlib.Core.Bool.{Bool, not, _&&_}
 use mathlib.Core.List.{List, [], _∷_, _++_}
 use mathlib.Core.Option.{Option, none, some}
 use Prim.Native.Nat.{ℕ, suc}
@@ -9,7 +9,7 @@ use lib.ListN.{length}
 use Rattle.counting.specs.Count.{among}
 use Rattle.rules.specs.Sizes.{nodesMost, linksMost, packetsMost, pathMost, hopsMost}
 use Rattle.rules.specs.Network.{Network, Link, linkAt, Job, paths}
-use Rattle.rules.specs.Outcome.{Outcome, refused, Verdict, fine, must, _then_}
+use Rattle.rules.specs.Outcome.{refused, Verdict, fine, must, _then_}
 
 -- one link: 4 for either node, then 5
 unfoldable pub linkVerdict : ℕ → ℕ → ℕ → ℕ → Verdict

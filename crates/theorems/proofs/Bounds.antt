@@ -1,21 +1,21 @@
 -- Demand 3's bounds over paths, of any starts that are each the first free step: at most the meetings, and ended by C times D.
-use mathlib.Core.Path.{_≡_, refl, sym, ap, ap₂, _∙_}
+use mathlib.Core.Path.{_≡_, refl, sym, ap, _∙_}
 use mathlib.Core.Bool.{Bool, true, false, _&&_}
-use mathlib.Core.List.{List, [], _∷_, _++_, map, append-assoc, append-nil, List·Memᴰ, List·Memᴰ·head as here, List·Memᴰ·tail as there}
-use mathlib.Core.Option.{Option, none, some}
-use Prim.Native.Nat.{ℕ, zero, suc, pred, _+_, _*_, _≤_, _<_, max}
+use mathlib.Core.List.{List, [], _∷_, _++_, append-assoc, append-nil, List·Memᴰ, List·Memᴰ·head as here, List·Memᴰ·tail as there}
+use mathlib.Core.Option.{some}
+use Prim.Native.Nat.{ℕ, zero, suc, pred, _+_, _*_, _≤_, _<_}
 use native.Mathlib.Omega.{arith}
 use native.Mathlib.Nat.{le-trans, le-pred-of-lt, mul-le-mul-left}
 use lib.Dec.{eqb}
 use lib.ListN.{length, take, drop, getD, getElem?, take-append-drop}
 use lib.Seq.{split-at}
 use borrow.Author.Tests.{eq-eqb, eqb-true}
-use Rattle.counting.specs.Count.{bit, anyOf, among, sumOf, maxOf, hits, sumBelow, maxBelow}
-use Rattle.counting.proofs.Tests.{any-mem, and-right}
-use Rattle.counting.proofs.Sums.{sum-le, sum-const, sum-append, sum-swap, sum-le-any, le-max, max-le}
+use Rattle.counting.specs.Count.{bit, among, sumOf, maxOf, hits, maxBelow}
+use Rattle.counting.proofs.Tests.{any-mem}
+use Rattle.counting.proofs.Sums.{sum-le, sum-const, sum-append, sum-swap, sum-le-any, le-max}
 use Rattle.counting.proofs.Hits.{occurs, sum-le-hits, sum-below-le, hits-any, hits-once, le-max-below}
-use Rattle.counting.proofs.Places.{some-same, none-not-some, at-mem, at-map, at-below, at-getD, mem-take}
-use Rattle.rules.specs.Claims.{Claim, linkClaims, Placed, place, placed}
+use Rattle.counting.proofs.Places.{some-same, none-not-some, at-mem, at-below, at-getD, mem-take}
+use Rattle.rules.specs.Claims.{linkClaims, placed}
 use Rattle.rules.specs.Greedy.{FirstFree, crossings}
 use Rattle.rules.specs.Counts.{endOf, routingTime, load, shared, meetingsWith, meetingsAfter}
 use Rattle.theorems.proofs.FirstFrees.{first-free-le-crossings}

@@ -1,6 +1,6 @@
 -- The owner's third demand, of the greedy starts of every accepted job: as lists and as text.
 use mathlib.Core.Path.{_≡_}
-use mathlib.Core.List.{List, [], _∷_, List·Memᴰ}
+use mathlib.Core.List.{List, [], List·Memᴰ}
 use mathlib.Core.Option.{some}
 use Prim.Native.Nat.{ℕ, _*_, _≤_}
 use native.Mathlib.Omega.{arith}
@@ -18,6 +18,7 @@ use Rattle.theorems.proofs.OnPaths.{onPaths, on-paths-at, take-placed}
 use Rattle.theorems.proofs.Starts.{length-greedy, greedy-first}
 use Rattle.theorems.proofs.Paths.{path-links-exist, path-once}
 use Rattle.theorems.proofs.Accepted.{IsJob, tables-fine-iff, hops-in-all, job-path}
+use Rattle.theorems.proofs.TextJobs.{reading-job}
 use Rattle.theorems.proofs.Bounds.{Simple, start-le-meetings-with, end-le-product, routing-time-le, meetings-at, meetings-le-hops, sum-take-le}
 
 module _ (j : Job) (job : IsJob j) where
@@ -61,3 +62,6 @@ module _ (j : Job) (job : IsJob j) where
 
 pub tables-bounded : (j : Job) → tables j ≡ fine → Bounded j
 tables-bounded j e = job-bounded j (tables-fine-iff j .0 e)
+
+pub text-bounded : (text : List ℕ) (j : Job) → reading text ≡ is j → Bounded j
+text-bounded text j e = job-bounded j (reading-job text j e)

@@ -2,18 +2,18 @@
 -- at most the number of crossings.
 use mathlib.Core.Path.{_≡_, refl}
 use mathlib.Core.Bool.{Bool, true, false, _&&_}
-use mathlib.Core.List.{List, [], _∷_, _++_}
+use mathlib.Core.List.{List}
 use mathlib.Core.Logic.{_⊎_, inl, inr}
 use Prim.Native.Nat.{ℕ, zero, suc, _+_, _≤_, _<_}
 use native.Mathlib.Omega.{arith, by-contra}
 use native.Mathlib.Nat.{le-trans, le-antisymm, eq-or-lt-of-le, le-of-suc-le-suc, not-suc-le-zero}
 use lib.Dec.{eqb}
 use borrow.Author.Tests.{eqb-true}
-use Rattle.counting.specs.Count.{bit, anyOf, sumOf, hits}
+use Rattle.counting.specs.Count.{bit, anyOf, hits}
 use Rattle.counting.proofs.Tests.{never-both, false-of-not-true}
 use Rattle.counting.proofs.Sums.{sum-le}
 use Rattle.counting.proofs.Hits.{sum-below-zero, hits-all, hits-once, hits-any}
-use Rattle.rules.specs.Claims.{Claim, Placed, place, takes, conflict, blocked}
+use Rattle.rules.specs.Claims.{Claim, Placed, takes, conflict, blocked}
 use Rattle.rules.specs.Greedy.{FirstFree, scan, crossings, firstFree}
 
 -- one claim against one that is placed rules out one start at most, and none if the resources differ

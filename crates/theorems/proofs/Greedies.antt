@@ -1,13 +1,12 @@
 -- The greedy starts over claims: each the first free step after those before it, no other list is so, later packets move
 -- nothing, and no two placed so conflict.
-use mathlib.Core.Path.{_≡_, refl, sym, ap, ap₂, _∙_}
-use mathlib.Core.Bool.{Bool, true, false}
+use mathlib.Core.Path.{_≡_, refl, ap, ap₂, _∙_}
+use mathlib.Core.Bool.{false}
 use mathlib.Core.List.{List, [], _∷_, _++_, append-nil, append-assoc}
-use mathlib.Core.Option.{Option, none, some}
+use mathlib.Core.Option.{some}
 use Prim.Native.Nat.{ℕ, zero, suc, _<_}
 use native.Mathlib.Omega.{arith}
 use lib.ListN.{length, take, getElem?}
-use Rattle.counting.specs.Count.{anyOf}
 use Rattle.counting.proofs.Tests.{any-mem, false-of-not-true, never-both}
 use Rattle.counting.proofs.Places.{some-same, none-not-some, at-mem, at-take}
 use Rattle.rules.specs.Claims.{Claim, Placed, place, placed, conflict, blocked}

@@ -21,7 +21,7 @@ use Rattle.rules.specs.Tables.{linkVerdict, walk, packetVerdict, linksVerdict, 
 use Rattle.rules.specs.Claims.{linkClaims}
 use Rattle.rules.specs.Lead.{entryStep, leadOf, entryOf, entryAt, lead}
 use Rattle.rules.specs.Answers.{startsVerdict, startedVerdict, led}
-use Rattle.rules.specs.Plain.{Enters}
+use Rattle.rules.specs.Plain.{Enters, EntersAt}
 use Rattle.theorems.proofs.Verdicts.{refused-not-is}
 
 entry-enters-from : (link s o : ℕ) (path : List ℕ) (t : ℕ) → entryStep link s (linkClaims o path) ≡ some t → Enters (s + o) path link t
@@ -51,19 +51,11 @@ no-entry link s o (l ∷ ls) e = go (eqb l link) e (no-entry link s (suc o) ls)
     go true e r = absurd (none-not-some (sym e))
     go false e r = r e
 
--- packet k has a start and a path, and enters the link in the step
-pub record EntersAt (starts : List ℕ) (ps : List (List ℕ)) (link k step : ℕ) : Type 0 where
-  pub start : ℕ
-  pub path : List ℕ
-  pub is-start : getElem? starts k ≡ some start
-  pub is-path : getElem? ps k ≡ some path
-  pub enters : Enters start path link step
-
-pub entry-at-enters : (starts : List ℕ) (ps : List (List ℕ)) (link k : ℕ) {x : ℕ} → entryAt starts ps link k ≡ some x → EntersAt starts ps link k x
+pub entry-at-enters : (starts : List ℕ) (ps : List (List ℕ)) (link k : ℕ) {x : ℕ} → entryAt starts ps link k ≡ some x → EntersAt ps starts k link x
 unfolding entryAt
 entry-at-enters starts ps link k {x} e = go (getElem? starts k) (getElem? ps k) refl refl e
   where
-    go : (s : Option ℕ) (p : Option (List ℕ)) → getElem? starts k ≡ s → getElem? ps k ≡ p → entryOf link s p ≡ some x → EntersAt starts ps link k x
+    go : (s : Option ℕ) (p : Option (List ℕ)) → getElem? starts k ≡ s → getElem? ps k ≡ p → entryOf link s p ≡ some x → EntersAt ps starts k link x
     go none p f g e = absurd (none-not-some e)
     go (some s) none f g e = absurd (none-not-some e)
     go (some s) (some p) f g e = record { start = s; path = p; is-start = f; is-path = g; enters = entry-enters link s p x e }

@@ -3,6 +3,8 @@ pub mod Conflicts
 pub mod FirstFrees
 pub mod Greedies
 pub mod OnPaths
+pub mod Clashes
+pub mod Checks
 pub mod Starts
 pub mod Paths
 pub mod Accepted
@@ -14,3 +16,4 @@ pub mod Demands
 pub mod Leads
 pub mod Started
 pub mod TextFronts
+pub mod Checked

@@ -1,7 +1,7 @@
 -- What stands in a list of packets on paths with their starts.
-use mathlib.Core.Path.{_≡_, refl, sym, ap, ap₂, _∙_}
+use mathlib.Core.Path.{_≡_, refl, ap, ap₂}
 use mathlib.Core.List.{List, [], _∷_, map}
-use mathlib.Core.Option.{Option, none, some}
+use mathlib.Core.Option.{Option, some}
 use Prim.Native.Nat.{ℕ, zero, suc}
 use lib.ListN.{take, getElem?}
 use Rattle.counting.proofs.Places.{some-same, none-not-some, at-map, at-map-split}

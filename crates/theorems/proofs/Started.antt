@@ -7,14 +7,16 @@ use native.Mathlib.Omega.{arith}
 use lib.IntN.{ℤ, natAbs}
 use lib.ListN.{length}
 use Rattle.counting.proofs.Places.{mem-at}
-use Rattle.rules.specs.Sizes.{packetsMost, pathMost, startMost, planMost, leadMost}
+use Rattle.rules.specs.Sizes.{pathMost, startMost, planMost, leadMost}
 use Rattle.rules.specs.Network.{Job, paths}
 use Rattle.rules.specs.Outcome.{is, fine}
 use Rattle.rules.specs.Tables.{tables}
 use Rattle.rules.specs.Greedy.{greedy}
 use Rattle.rules.specs.PlanText.{planText}
-use Rattle.rules.specs.Answers.{startsVerdict, startedVerdict, led}
-use Rattle.theorems.proofs.Verdicts.{leb-iff, eqb-iff, must-iff, then-iff, then-is-iff}
+use Rattle.rules.specs.Answers.{startsVerdict, startedVerdict, led, answer}
+use Rattle.rules.specs.JobText.{reading}
+use Rattle.theorems.proofs.Verdicts.{leb-iff, eqb-iff, is-iff, must-iff, then-iff, then-is-iff, onward-is}
+use Rattle.theorems.proofs.TextJobs.{reading-accepted}
 use Rattle.theorems.proofs.Accepted.{IsJob, tables-fine-iff, length-paths, job-path}
 use Rattle.theorems.proofs.PlanLength.{plan-length-le}
 use Rattle.theorems.proofs.Leads.{lead-in-range}
@@ -68,3 +70,10 @@ led-in-range j starts a b link z e =
     let (v, l) = then-is-iff (startedVerdict j starts) _ z .0 e in
     let h = started-fine-iff j starts .0 v in
     lead-in-range starts (paths j) (h .in-time) (paths-short j (h .job)) a b link z l
+
+-- so every answer from bytes fits the room that always suffices
+pub answer-length : (text plan : List ℕ) → answer text ≡ is plan → length plan ≤ planMost
+unfolding answer
+answer-length text plan e =
+    let (j, read, told) = onward-is (reading text) (λ j. is (planText j (greedy j))) e in
+    rw (← is-iff .0 told) (started-plan-length j (greedy j) (greedy-started j (reading-accepted text j read)))

@@ -1,23 +1,22 @@
 -- The greedy starts of a job are the plain ones, and there are no others.
-use mathlib.Core.Path.{_≡_, refl, sym, ap, _∙_, subst}
-use mathlib.Core.Bool.{Bool, true, false}
+use mathlib.Core.Path.{_≡_, refl, sym, ap, _∙_}
+use mathlib.Core.Bool.{false}
 use mathlib.Core.Logic.{_↔_}
 use mathlib.Core.List.{List, [], _∷_, map}
-use mathlib.Core.Option.{Option, none, some}
+use mathlib.Core.Option.{some}
 use Prim.Native.Nat.{ℕ, zero, suc, _<_}
 use native.Mathlib.Omega.{arith}
 use native.Mathlib.Decide.{decLt}
 use lib.ListN.{length, take, getElem?, length-map}
-use Rattle.counting.specs.Count.{anyOf}
 use Rattle.counting.proofs.Tests.{any-mem, any-true, false-of-not-true, true-of-not-false, never-both}
 use Rattle.counting.proofs.Places.{at-mem, mem-at, at-take, at-take-below}
 use Rattle.rules.specs.Network.{Job, paths}
-use Rattle.rules.specs.Claims.{linkClaims, claims, Placed, place, conflict, blocked}
-use Rattle.rules.specs.Greedy.{FirstFree, greedy, greedyAfter}
+use Rattle.rules.specs.Claims.{linkClaims, claims, place, conflict, blocked}
+use Rattle.rules.specs.Greedy.{greedy, greedyAfter}
 use Rattle.rules.specs.Plain.{Conflict, Free, Starts}
 use Rattle.theorems.proofs.Conflicts.{conflict-iff, conflict-sym}
 use Rattle.theorems.proofs.OnPaths.{onPaths, on-paths-at, on-paths-split}
-use Rattle.theorems.proofs.Greedies.{EachFirst, greedy-each-first, each-first-greedy, each-first-clear, length-greedy-after, greedy-take}
+use Rattle.theorems.proofs.Greedies.{EachFirst, greedy-each-first, each-first-greedy, length-greedy-after, greedy-take}
 
 -- free of those listed before is not blocked by them
 pub free-iff : (ps : List (List ℕ)) (ss : List ℕ) (k : ℕ) (p : List ℕ) (s : ℕ) → Free ps ss k p s ↔ (blocked (take k (onPaths ss ps)) (linkClaims 0 p) s ≡ false)

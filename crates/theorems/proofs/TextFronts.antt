@@ -15,7 +15,7 @@ use Rattle.rules.specs.Greedy.{greedy}
 use Rattle.rules.specs.Bytes.{lineFeed, onto, split}
 use Rattle.rules.specs.JobText.{lineOf, withLine, withLines, firstLine, allLines, reading}
 use Rattle.theorems.proofs.Verdicts.{refused-not-is, is-iff, eqb-iff, must-iff, then-iff, then-is-iff, onward-is, onward-of}
-use Rattle.theorems.proofs.TextJobs.{first-job, reading-job, text-front}
+use Rattle.theorems.proofs.TextJobs.{reading-job, text-front}
 use Rattle.theorems.proofs.Starts.{length-greedy, greedy-front}
 
 -- ---- the pieces of a text that ends where a piece does
