@@ -62,4 +62,3 @@ distinct-occurs (m ∷ ns) d n = go (eqb m n) refl (distinct-occurs ns (λ p q k
       where
         absent : among n ns ≡ true → ⊥
         absent h = let (i, at) = among-at n ns h in omega (arith, d 0 (suc i) n (ap {B = Option ℕ} some (eqb-true m n e)) at)
-

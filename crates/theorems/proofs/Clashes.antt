@@ -136,6 +136,7 @@ abbrev Lowest : List Placed → ℕ → Option Clash → Type 0
 Lowest bs n none = (k : ℕ) → n ≤ k → Meets bs k → ⊥
 Lowest bs n (some x) = (k : ℕ) × (b : Placed) × (getElem? bs k ≡ some b) × (clashOf k (take k bs) (b .start) (b .claimed) ≡ some x) × ((m : ℕ) → n ≤ m → Meets bs m → k ≤ m)
 
+-- past packet n, which meets none
 lowest-past : (bs : List Placed) (n : ℕ) (o : Option Clash) → (Meets bs n → ⊥) → Lowest bs (suc n) o → Lowest bs n o
 lowest-past bs n o alone = go o
   where

@@ -101,8 +101,7 @@ all-lines-of [] k e = absurd (refused-not-is e)
 all-lines-of (p ∷ []) k e = absurd (refused-not-is e)
 all-lines-of (p ∷ q ∷ ps) k e =
     let (i, a, b) = onward-is (firstLine (lineOf p)) (λ i. withLines 2 i (q ∷ ps)) e in
-    let r = lines-of 2 i (q ∷ ps) k cons≢nil b in
-    (
+    let r = lines-of 2 i (q ∷ ps) k cons≢nil b in (
       p ∷ r .whole,
       r .next,
       ap (λ (qs : List (List ℕ)). p ∷ qs) (r .ended),
