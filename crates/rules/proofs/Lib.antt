@@ -1,1 +1,2 @@
 pub mod Sessions
+pub mod Parallel

@@ -15,7 +15,7 @@ use Rattle.rules.specs.Lead.{entryStep, entryAt, lead}
 use Rattle.rules.specs.Bytes.{letterN, letterL, letterP, letterR, letterS, letterT, digits, decimal, fieldsText, lineText, valueAfter, numberOf, numbersOf, split}
 use Rattle.rules.specs.JobText.{lineOf, withLine, withLines, reading}
 use Rattle.rules.specs.PlanText.{packetLines, planText}
-use Rattle.rules.specs.Answers.{startsVerdict, startedVerdict, checked, led, answer, printed}
+use Rattle.rules.specs.Answers.{startsVerdict, startedVerdict, checked, led, answer, printed, plans}
 
 -- a session: a job's text, what is asked of it, and what is told
 pub data Session : Type 0 where
@@ -26,7 +26,7 @@ pub data Session : Type 0 where
   leads : (job : List ℕ) (a b link : ℕ) (told : ℤ) → Session
 
 abbrev pub Holds : Session → Type 0
-Holds (prints job told) = printed (answer job) ≡ told
+Holds (prints job told) = plans job ≡ told
 Holds (starts job told) = onward (reading job) (λ j. is (greedy j)) ≡ is told
 Holds (meets job told) = onward (reading job) (λ j. is (meetings j)) ≡ is told
 Holds (checks job ss told) = onward (reading job) (λ j. checked j ss) ≡ is told
@@ -110,5 +110,5 @@ unfolding table
     linkAt pathsFrom paths linkVerdict walk packetVerdict linksVerdict packetsVerdict stopsAgree tables linkClaims claims placed takes conflict blocked
     scan crossings firstFree greedyAfter greedy endOf routingTime load congestion dilation shared meetingsWith meetingsAfter meetings holder clashOf clashAfter entryStep entryAt lead
     digits decimal fieldsText lineText valueAfter numberOf numbersOf split lineOf withLine withLines reading packetLines planText
-    startsVerdict startedVerdict checked led answer printed
+    startsVerdict startedVerdict checked led answer printed plans
 sessions = (refl, (refl, (refl, (refl, (refl, (refl, (refl, (refl, (refl, (refl, (refl, (refl, (refl, (refl, (refl, tt)))))))))))))))

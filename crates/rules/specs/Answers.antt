@@ -30,11 +30,11 @@ startedVerdict j starts = tables j then must (eqb (length starts) (length (j .so
 unfoldable pub planned : Job → ℕ → Outcome (List ℕ)
 planned j room = tables j then must (leb (length (j .sources)) room) 10 0 then is (greedy j)
 
--- the check
+-- the check: none is clear
 unfoldable pub checked : Job → List ℕ → Outcome (Option Clash)
 checked j starts = startedVerdict j starts then is (clashAfter [] (placed starts (claims j)))
 
--- the lead of packet a over packet b on a link
+-- the lead
 unfoldable pub led : Job → List ℕ → ℕ → ℕ → ℕ → Outcome ℤ
 led j starts a b link = startedVerdict j starts then lead starts (paths j) a b link
 
@@ -47,7 +47,11 @@ written j starts room =
 unfoldable pub answer : List ℕ → Outcome (List ℕ)
 answer text = onward (reading text) (λ j. is (planText j (greedy j)))
 
--- what `plan` prints
+-- an answer as it is printed
 unfoldable pub printed : Outcome (List ℕ) → List ℕ
 printed (is text) = text
 printed (refused number place) = lineText letterR (number ∷ place ∷ [])
+
+-- what `plan` prints for a job's bytes
+unfoldable pub plans : List ℕ → List ℕ
+plans text = printed (answer text)

@@ -1,4 +1,5 @@
--- Document 01, "Job text and plan text": bytes, numbers and lines.
+-- Document 01, "Job text and plan text": bytes, numbers and lines. A byte is a number; one that is no letter, digit, tab or
+-- line feed in its place, be it over 255, is bad form like any other.
 use mathlib.Core.Bool.{true, false, _&&_}
 use mathlib.Core.List.{List, [], _∷_, _++_}
 use mathlib.Core.Option.{Option, none, some}
@@ -50,7 +51,8 @@ fieldsText (n ∷ ns) = tab ∷ decimal n ++ fieldsText ns
 unfoldable pub lineText : ℕ → List ℕ → List ℕ
 lineText letter ns = letter ∷ fieldsText ns
 
--- the number that digits say after others worth n; none where a byte is no digit or the number grows too large
+-- the number whose first digits are worth n and whose further digits are these; none where a byte is no digit or the number
+-- grows too large
 unfoldable pub valueAfter : ℕ → List ℕ → Option ℕ
 valueAfter n [] = some n
 valueAfter n (b ∷ bs) =
@@ -76,7 +78,7 @@ abbrev pub onto : ℕ → List (List ℕ) → List (List ℕ)
 onto b [] = []
 onto b (p ∷ ps) = (b ∷ p) ∷ ps
 
--- the pieces that a byte parts: one more than it stands there
+-- the pieces between the places of a byte: one piece more than such places
 unfoldable pub split : ℕ → List ℕ → List (List ℕ)
 split c [] = [] ∷ []
 split c (b ∷ bs) = pick (eqb b c) ([] ∷ split c bs) (onto b (split c bs))

@@ -34,18 +34,18 @@ placed [] rest = []
 placed (s ∷ ss) [] = []
 placed (s ∷ ss) (cs ∷ rest) = place s cs ∷ placed ss rest
 
--- the placed packet takes the resource in the step
+-- whether the placed packet takes the resource in the step
 unfoldable pub takes : Placed → ℕ → ℕ → Bool
 takes b resource step = anyOf (λ c. eqb (c .resource) resource && eqb (b .start + c .offset) step) (b .claimed)
 
--- one of the placed packets does
+-- whether one of those placed takes the resource in the step
 unfoldable pub taken : List Placed → ℕ → ℕ → Bool
 taken bs resource step = anyOf (λ b. takes b resource step) bs
 
--- two packets conflict: they take one resource in one step
+-- whether two placed packets take one resource in one step
 unfoldable pub conflict : Placed → Placed → Bool
 conflict a b = anyOf (λ c. takes b (c .resource) (a .start + c .offset)) (a .claimed)
 
--- at start s a packet with these claims conflicts with one of those placed
+-- whether a packet with these claims, started at s, conflicts with one of those placed
 unfoldable pub blocked : List Placed → List Claim → ℕ → Bool
 blocked bs cs s = anyOf (λ b. conflict (place s cs) b) bs

@@ -10,7 +10,7 @@ use Rattle.rules.specs.Network.{Job, paths}
 unfoldable pub endOf : ℕ → List ℕ → ℕ
 endOf start path = start + length path
 
--- the greatest end
+-- the greatest end, 0 without packets
 unfoldable pub routingTime : List ℕ → List (List ℕ) → ℕ
 routingTime [] ps = 0
 routingTime (s ∷ ss) [] = 0
@@ -23,19 +23,19 @@ load link ps = sumOf (λ p. bit (among link p)) ps
 abbrev pub linkCount : Job → ℕ
 linkCount j = length (j .network .origins)
 
--- C
+-- C: the most paths that have one link, 0 without links
 unfoldable pub congestion : Job → ℕ
 congestion j = maxBelow (λ link. load link (paths j)) (linkCount j)
 
--- D
+-- D: the hops of the longest path, 0 without packets
 unfoldable pub dilation : Job → ℕ
 dilation j = maxOf (λ p. length p) (paths j)
 
--- the links below n that are on both paths
+-- how many links below n are on both paths
 unfoldable pub shared : ℕ → List ℕ → List ℕ → ℕ
 shared n p q = hits (λ link. among link p && among link q) n
 
--- pairs of a packet listed before and a link on both paths
+-- how many links a path has in common with each of those before, summed
 unfoldable pub meetingsWith : ℕ → List (List ℕ) → List ℕ → ℕ
 meetingsWith n before p = sumOf (λ q. shared n p q) before
 

@@ -9,7 +9,7 @@ use Rattle.counting.specs.Count.{bit, sumOf}
 use Rattle.rules.specs.Network.{Job}
 use Rattle.rules.specs.Claims.{Claim, claims, Placed, place, blocked}
 
--- s is the smallest step, from 0 up, at which the claims conflict with none of those placed
+-- started at s the claims meet none of those placed, and at every smaller step they meet one
 pub record FirstFree (bs : List Placed) (cs : List Claim) (s : ℕ) : Type 0 where
   pub free : blocked bs cs s ≡ false
   pub least : (t : ℕ) → t < s → blocked bs cs t ≡ true
@@ -19,14 +19,14 @@ unfoldable pub scan : (ℕ → Bool) → ℕ → ℕ → ℕ
 scan test zero i = i
 scan test (suc n) i = elim (test i) [ true ↦ scan test n (suc i) | false ↦ i ]
 
--- pairs of one of the claims and one that is placed, of one resource: each rules out one start at most
+-- how many pairs there are of one of the claims and a placed one of the same resource: each rules out one start at most
 unfoldable pub crossings : List Placed → List Claim → ℕ
 crossings bs cs = sumOf (λ b. sumOf (λ c. sumOf (λ d. bit (eqb (d .resource) (c .resource))) (b .claimed)) cs) bs
 
 unfoldable pub firstFree : List Placed → List Claim → ℕ
 firstFree bs cs = scan (blocked bs cs) (crossings bs cs) 0
 
--- each takes the first free step after those placed and those listed before it
+-- each takes the smallest step that is free, given those placed and those listed before it
 unfoldable pub greedyAfter : List Placed → List (List Claim) → List ℕ
 greedyAfter bs [] = []
 greedyAfter bs (cs ∷ rest) = let s = firstFree bs cs in s ∷ greedyAfter (bs ++ (place s cs ∷ [])) rest

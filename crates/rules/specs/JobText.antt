@@ -1,5 +1,5 @@
--- Document 01, "Job text and plan text" and "Refusals and their order", Text: what a job's text means. Lines from the top; on
--- a line 2, 3, 4, 5, then hop by hop 6, 7, 8; the place is the line, counted from 1.
+-- Document 01, "Job text and plan text" and "Refusals and their order", Text: what a job's text means. The first line is read
+-- apart; each later line is judged for its form, its sizes, its nodes, then its hops. A refusal names the line, from 1.
 use mathlib.Core.List.{List, [], _∷_, _++_}
 use mathlib.Core.Option.{Option, none, some}
 use mathlib.Core.Bool.{_&&_}
@@ -73,7 +73,7 @@ withPacket j source path =
       hops = j .hops ++ path;
     }
 
--- the job with line n, a line below the first: an L line after a P line is bad form
+-- the job with line n, below the first: there N is bad form, and L below P
 unfoldable pub withLine : ℕ → Job → Line → Outcome Job
 withLine n j (nodes m) = refused 2 n
 withLine n j (link from to) =
@@ -88,11 +88,10 @@ withLine n j (packet source path) =
     then is (withPacket j source path)
 withLine n j bad = refused 2 n
 
--- the lines from number n on. The last piece is what follows the last line feed, and is to be empty
-unfoldable pub withLines : ℕ → Job → List (List ℕ) → Outcome Job
-withLines n j [] = is j
-withLines n j (p ∷ []) = must (eqb (length p) 0) 2 n then is j
-withLines n j (p ∷ q ∷ ps) = onward (withLine n j (lineOf p)) (λ k. withLines (suc n) k (q ∷ ps))
+-- the piece p and those after it, from line n on: the last is what follows the last line feed, and is to be empty
+unfoldable pub withLines : ℕ → Job → List ℕ → List (List ℕ) → Outcome Job
+withLines n j p [] = must (eqb (length p) 0) 2 n then is j
+withLines n j p (q ∷ ps) = onward (withLine n j (lineOf p)) (λ k. withLines (suc n) k q ps)
 
 abbrev pub firstLine : Line → Outcome Job
 firstLine (nodes n) = must (leb 1 n && leb n nodesMost) 3 1 then is (blank n)
@@ -103,7 +102,7 @@ firstLine bad = refused 2 1
 abbrev pub allLines : List (List ℕ) → Outcome Job
 allLines [] = refused 2 1
 allLines (p ∷ []) = refused 2 1
-allLines (p ∷ q ∷ ps) = onward (firstLine (lineOf p)) (λ j. withLines 2 j (q ∷ ps))
+allLines (p ∷ q ∷ ps) = onward (firstLine (lineOf p)) (λ j. withLines 2 j q ps)
 
 -- the job that a text says
 unfoldable pub reading : List ℕ → Outcome Job

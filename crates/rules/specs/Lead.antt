@@ -2,18 +2,17 @@
 use mathlib.Core.Bool.{not}
 use mathlib.Core.List.{List, [], _∷_}
 use mathlib.Core.Option.{Option, none, some}
-use Prim.Native.Nat.{ℕ, _+_}
+use Prim.Native.Nat.{ℕ, suc}
 use lib.Dec.{eqb}
 use lib.ListN.{getElem?}
 use lib.IntN.{ℤ, pos, _-ℤ_}
 use Rattle.counting.specs.Count.{pick}
 use Rattle.rules.specs.Outcome.{Outcome, is, refused, must, _then_}
-use Rattle.rules.specs.Claims.{Claim, linkClaims}
 
--- the step in which a packet with start s takes the resource, if it claims it
-unfoldable pub entryStep : ℕ → ℕ → List Claim → Option ℕ
-entryStep resource s [] = none
-entryStep resource s (c ∷ cs) = pick (eqb (c .resource) resource) (some (s + c .offset)) (entryStep resource s cs)
+-- the step in which a packet enters the link, if it is on the path, whose first link it enters in step s
+unfoldable pub entryStep : ℕ → ℕ → List ℕ → Option ℕ
+entryStep link s [] = none
+entryStep link s (l ∷ ls) = pick (eqb l link) (some s) (entryStep link (suc s) ls)
 
 -- 13 where one of the two does not enter
 abbrev pub leadOf : Option ℕ → Option ℕ → Outcome ℤ
@@ -24,12 +23,12 @@ leadOf (some x) (some y) = is (pos x -ℤ pos y)
 abbrev pub entryOf : ℕ → Option ℕ → Option (List ℕ) → Option ℕ
 entryOf link none path = none
 entryOf link (some s) none = none
-entryOf link (some s) (some path) = entryStep link s (linkClaims 0 path)
+entryOf link (some s) (some path) = entryStep link s path
 
 -- packet k's entry step on the link, if there is such a packet and the link is on its path
 unfoldable pub entryAt : List ℕ → List (List ℕ) → ℕ → ℕ → Option ℕ
 entryAt starts ps link k = entryOf link (getElem? starts k) (getElem? ps k)
 
--- packet a's entry step on the link less packet b's
+-- packet a's entry step on the link compared with packet b's
 unfoldable pub lead : List ℕ → List (List ℕ) → ℕ → ℕ → ℕ → Outcome ℤ
 lead starts ps a b link = must (not (eqb a b)) 13 0 then leadOf (entryAt starts ps link a) (entryAt starts ps link b)

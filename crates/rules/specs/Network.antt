@@ -6,6 +6,7 @@ use Prim.Native.Nat.{ℕ}
 use lib.ListN.{getElem?}
 use lib.Seq.{slice}
 
+-- how many nodes there are, and of each link the node it leaves and the node it enters
 pub record Network : Type 0 where
   pub nodes : ℕ
   pub origins : List ℕ
@@ -17,7 +18,7 @@ pub record Job : Type 0 where
   pub stops : List ℕ
   pub hops : List ℕ
 
--- a link is one-way, from one node to another
+-- where a link leaves, and where it goes
 pub record Link : Type 0 where
   pub from : ℕ
   pub to : ℕ
@@ -31,10 +32,10 @@ linkOf (some o) (some e) = some (record { from = o; to = e })
 unfoldable pub linkAt : Network → ℕ → Option Link
 linkAt net l = linkOf (getElem? (net .origins) l) (getElem? (net .ends) l)
 
--- each path goes on in the hops where the one before stopped, at a for the first
+-- each path takes the hops from where the one before stopped, the first from a on, up to its own stop
 unfoldable pub pathsFrom : ℕ → List ℕ → List ℕ → List (List ℕ)
 pathsFrom a [] hops = []
-pathsFrom a (e ∷ es) hops = slice a e hops ∷ pathsFrom e es hops
+pathsFrom a (stop ∷ stops) hops = slice a stop hops ∷ pathsFrom stop stops hops
 
 -- the paths of a job's packets, in order: lists of link numbers
 unfoldable pub paths : Job → List (List ℕ)

@@ -6,24 +6,24 @@ use mathlib.Core.Option.{some}
 use Prim.Native.Nat.{ℕ, _+_, _<_, _≤_}
 use lib.ListN.{length, getElem?}
 
--- a packet with start s enters the link in the step: the link stands at hop position p, and s + p is the step
+-- a packet with this start and path enters the link in the step: the link stands at a hop, and start plus hop is the step
 pub record Enters (s : ℕ) (path : List ℕ) (link step : ℕ) : Type 0 where
   pub hop : ℕ
   pub there : getElem? path hop ≡ some link
   pub then-step : s + hop ≡ step
 
--- two packets enter one link in one step
+-- a packet with start s and path p and one with start t and path q enter one link in one step
 pub record Conflict (s : ℕ) (p : List ℕ) (t : ℕ) (q : List ℕ) : Type 0 where
   pub link : ℕ
   pub step : ℕ
   pub one : Enters s p link step
   pub other : Enters t q link step
 
--- started at s, packet k conflicts with no packet listed before it
+-- packet k, whose path is p, would if started at s meet nobody listed before it
 abbrev pub Free : List (List ℕ) → List ℕ → ℕ → List ℕ → ℕ → Type 0
 Free ps ss k p s = (j : ℕ) (q : List ℕ) (t : ℕ) → j < k → getElem? ps j ≡ some q → getElem? ss j ≡ some t → Conflict s p t q → ⊥
 
--- the starts of source document 003's greedy algorithm: each the smallest step, from 0 up, that is free
+-- the starts of source document 003's greedy algorithm: each is free, and no smaller step is
 pub record Starts (ps : List (List ℕ)) (ss : List ℕ) : Type 0 where
   pub count : length ss ≡ length ps
   pub free : (k : ℕ) (p : List ℕ) (s : ℕ) → getElem? ps k ≡ some p → getElem? ss k ≡ some s → Free ps ss k p s
@@ -37,14 +37,14 @@ pub record EntersAt (ps : List (List ℕ)) (ss : List ℕ) (k link step : ℕ) :
   pub is-start : getElem? ss k ≡ some start
   pub enters : Enters start path link step
 
--- so do packet k and packet e, listed before it
+-- packets k and e, e listed before k, both enter the link in the step
 pub record ConflictAt (ps : List (List ℕ)) (ss : List ℕ) (k e link step : ℕ) : Type 0 where
   pub before : e < k
   pub later : EntersAt ps ss k link step
   pub earlier : EntersAt ps ss e link step
 
--- the clash that the check shows: the lowest k; its first conflicting hop, which on a path is its earliest such step; the
--- lowest e there
+-- the clash that the check shows: the lowest k; its first conflicting hop, which is its earliest such step, since the hop at
+-- position p is entered in step s + p; the lowest e there
 pub record Shown (ps : List (List ℕ)) (ss : List ℕ) (k e link step : ℕ) : Type 0 where
   pub true-conflict : ConflictAt ps ss k e link step
   pub lowest : (k′ e′ l t : ℕ) → ConflictAt ps ss k′ e′ l t → k ≤ k′

@@ -11,7 +11,7 @@ packetLines k [] ps = []
 packetLines k (s ∷ ss) [] = []
 packetLines k (s ∷ ss) (p ∷ ps) = lineText letterS (k ∷ s ∷ endOf s p ∷ []) ++ packetLines (suc k) ss ps
 
--- and at last routing time, C and D
+-- the packets' lines, then routing time, C and D
 unfoldable pub planText : Job → List ℕ → List ℕ
 planText j starts =
     packetLines 0 starts (paths j) ++ lineText letterT (routingTime starts (paths j) ∷ congestion j ∷ dilation j ∷ [])

@@ -9,7 +9,7 @@ use lib.ListN.{length}
 use Rattle.counting.specs.Count.{among}
 use Rattle.rules.specs.Sizes.{nodesMost, linksMost, packetsMost, pathMost, hopsMost}
 use Rattle.rules.specs.Network.{Network, Link, linkAt, Job, paths}
-use Rattle.rules.specs.Outcome.{refused, Verdict, fine, must, _then_}
+use Rattle.rules.specs.Outcome.{Outcome, is, refused, Verdict, fine, must, _then_, onward}
 
 -- one link: 4 for either node, then 5
 unfoldable pub linkVerdict : ℕ → ℕ → ℕ → ℕ → Verdict
@@ -18,19 +18,19 @@ linkVerdict nodes place from to =
     then must (ltb to nodes) 4 place
     then must (not (eqb from to)) 5 place
 
--- one hop onto a link, if there is such a link, from the node reached, with the nodes visited so far: 6, 7, 8
-abbrev pub hopVerdict : ℕ → ℕ → List ℕ → Option Link → (ℕ → Verdict) → Verdict
-hopVerdict place reached visited none rest = refused 6 place
-hopVerdict place reached visited (some link) rest =
+-- the node that one hop leads to, from the node reached, with the nodes visited so far: else 6, 7 or 8
+abbrev pub hop : ℕ → ℕ → List ℕ → Option Link → Outcome ℕ
+hop place reached visited none = refused 6 place
+hop place reached visited (some link) =
     must (eqb (link .from) reached) 7 place
     then must (not (among (link .to) visited)) 8 place
-    then rest (link .to)
+    then is (link .to)
 
--- hop by hop
+-- hop by hop; the node reached is the last of those visited
 unfoldable pub walk : Network → ℕ → ℕ → List ℕ → List ℕ → Verdict
 walk net place reached visited [] = fine
 walk net place reached visited (l ∷ ls) =
-    hopVerdict place reached visited (linkAt net l) (λ node. walk net place node (visited ++ (node ∷ [])) ls)
+    onward (hop place reached visited (linkAt net l)) (λ node. walk net place node (visited ++ (node ∷ [])) ls)
 
 -- one packet: 3 for its path, 4 for its source, then its hops
 unfoldable pub packetVerdict : Network → ℕ → ℕ → List ℕ → Verdict
@@ -51,10 +51,10 @@ packetsVerdict net k [] ps = fine
 packetsVerdict net k (s ∷ ss) [] = fine
 packetsVerdict net k (s ∷ ss) (p ∷ ps) = packetVerdict net k s p then packetsVerdict net (suc k) ss ps
 
--- no stop lies before the one ahead of it, the first not before a, and the last is the number of hops
+-- no stop is less than the one before it (a, for the first), and the last (a, where there is none) is the number of hops
 unfoldable pub stopsAgree : ℕ → List ℕ → ℕ → Bool
 stopsAgree a [] hops = eqb a hops
-stopsAgree a (e ∷ es) hops = leb a e && stopsAgree e es hops
+stopsAgree a (stop ∷ stops) hops = leb a stop && stopsAgree stop stops hops
 
 -- 9, then the sizes, then links and packets
 unfoldable pub tables : Job → Verdict

@@ -1,6 +1,6 @@
 -- What the tables accept, in plain terms: sizes within their limits, links between two nodes of the network, and packets on
 -- paths of it.
-use mathlib.Core.Path.{_≡_, refl, sym}
+use mathlib.Core.Path.{_≡_, refl, sym, ap}
 use mathlib.Core.Bool.{true}
 use mathlib.Core.List.{List, [], _∷_, _++_, List·Memᴰ}
 use mathlib.Core.Logic.{_↔_, _⊎_, inl, inr, Iff·trans, Iff·rfl}
@@ -144,3 +144,24 @@ job-path j h m =
     let (k, e) = mem-at m in
     let l : k < length (j .sources) = omega (arith, at-below (paths j) k e, length-paths j, h .stops-count) in
     (getD (j .sources) k 0, h .packets k _ _ (at-getD (j .sources) k 0 l) e)
+
+-- ---- the stops in plain terms: none is less than the one before it, and the last, or 0 without packets, is the hop count
+
+pub record StopsFit (first : ℕ) (stops : List ℕ) (hops : ℕ) : Type 0 where
+  pub rise : (i s t : ℕ) → getElem? (first ∷ stops) i ≡ some s → getElem? stops i ≡ some t → s ≤ t
+  pub last : getElem? (first ∷ stops) (length stops) ≡ some hops
+
+pub stops-agree-iff : (first : ℕ) (stops : List ℕ) (hops : ℕ) → (stopsAgree first stops hops ≡ true) ↔ StopsFit first stops hops
+unfolding stopsAgree
+stops-agree-iff first [] hops = (
+  λ e. record { rise = λ i s t a b. absurd (none-not-some b); last = ap some (eqb-iff first hops .0 e) },
+  λ h. eqb-iff first hops .1 (some-same (h .last)),
+)
+stops-agree-iff first (e ∷ es) hops = Iff·trans (and-iff (leb-iff first e) (stops-agree-iff e es hops)) (to, λ h. (h .rise 0 first e refl refl, record { rise = λ i. h .rise (suc i); last = h .last }))
+  where
+    to : (first ≤ e) × StopsFit e es hops → StopsFit first (e ∷ es) hops
+    to (l, h) = record { rise = rise; last = h .last }
+      where
+        rise : (i s t : ℕ) → getElem? (first ∷ e ∷ es) i ≡ some s → getElem? (e ∷ es) i ≡ some t → s ≤ t
+        rise zero s t a b = rw (← some-same a, ← some-same b) l
+        rise (suc i) s t a b = h .rise i s t a b

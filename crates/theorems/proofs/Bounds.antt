@@ -140,3 +140,8 @@ meetings-le-hops n qs p = sum-le _ _ qs (λ q m. le-trans (sum-below-le _ _ n (�
 
 pub sum-take-le : (f : List ℕ → ℕ) (n : ℕ) (ps : List (List ℕ)) → sumOf f (take n ps) ≤ sumOf f ps
 sum-take-le f n ps = omega (arith, sum-append f (take n ps) (drop n ps), ap (sumOf f) (take-append-drop n ps))
+
+pub length-meetings-after : (n : ℕ) (before ps : List (List ℕ)) → length (meetingsAfter n before ps) ≡ length ps
+unfolding meetingsAfter
+length-meetings-after n before [] = refl
+length-meetings-after n before (p ∷ ps) = ap suc (length-meetings-after n (before ++ (p ∷ [])) ps)

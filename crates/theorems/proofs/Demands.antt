@@ -19,7 +19,7 @@ use Rattle.theorems.proofs.Starts.{length-greedy, greedy-first}
 use Rattle.theorems.proofs.Paths.{path-links-exist, path-once}
 use Rattle.theorems.proofs.Accepted.{IsJob, tables-fine-iff, hops-in-all, job-path}
 use Rattle.theorems.proofs.TextJobs.{reading-job}
-use Rattle.theorems.proofs.Bounds.{Simple, start-le-meetings-with, end-le-product, routing-time-le, meetings-at, meetings-le-hops, sum-take-le}
+use Rattle.theorems.proofs.Bounds.{Simple, start-le-meetings-with, end-le-product, routing-time-le, meetings-at, meetings-le-hops, length-meetings-after, sum-take-le}
 
 module _ (j : Job) (job : IsJob j) where
   -- every packet of the job is on a path
@@ -43,6 +43,7 @@ module _ (j : Job) (job : IsJob j) where
   pub job-bounded : Bounded j
   unfolding meetings congestion dilation
   job-bounded = record {
+    meetings-count = length-meetings-after (linkCount j) [] (paths j);
     start-le-meetings = λ k s m e f. rw (meetings-at (linkCount j) [] (paths j) k f (path-of k s e)) at (start-le-met k s _ e (path-of k s e));
     start-le-most = λ k s e.
         omega (

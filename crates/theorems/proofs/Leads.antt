@@ -18,36 +18,28 @@ use Rattle.rules.specs.Sizes.{startMost, pathMost, leadMost}
 use Rattle.rules.specs.Network.{Job, linkAt, pathsFrom, paths}
 use Rattle.rules.specs.Outcome.{is, must, _then_, onward}
 use Rattle.rules.specs.Tables.{linkVerdict, walk, packetVerdict, linksVerdict, packetsVerdict, stopsAgree, tables}
-use Rattle.rules.specs.Claims.{linkClaims}
 use Rattle.rules.specs.Lead.{entryStep, leadOf, entryOf, entryAt, lead}
 use Rattle.rules.specs.Answers.{startsVerdict, startedVerdict, led}
 use Rattle.rules.specs.Plain.{Enters, EntersAt}
 use Rattle.theorems.proofs.Verdicts.{refused-not-is}
 
-entry-enters-from : (link s o : ℕ) (path : List ℕ) (t : ℕ) → entryStep link s (linkClaims o path) ≡ some t → Enters (s + o) path link t
-unfolding entryStep linkClaims
-entry-enters-from link s o [] t e = absurd (none-not-some e)
-entry-enters-from link s o (l ∷ ls) t e = go (eqb l link) refl e (entry-enters-from link s (suc o) ls t)
+-- where there is an entry step, the packet enters the link in it
+pub entry-enters : (link s : ℕ) (path : List ℕ) (t : ℕ) → entryStep link s path ≡ some t → Enters s path link t
+unfolding entryStep
+entry-enters link s [] t e = absurd (none-not-some e)
+entry-enters link s (l ∷ ls) t e = go (eqb l link) refl e (entry-enters link (suc s) ls t)
   where
-    go : (b : Bool) → eqb l link ≡ b → pick b (some (s + o)) (entryStep link s (linkClaims (suc o) ls)) ≡ some t
-        → (entryStep link s (linkClaims (suc o) ls) ≡ some t → Enters (s + suc o) ls link t) → Enters (s + o) (l ∷ ls) link t
+    go : (b : Bool) → eqb l link ≡ b → pick b (some s) (entryStep link (suc s) ls) ≡ some t → (entryStep link (suc s) ls ≡ some t → Enters (suc s) ls link t) → Enters s (l ∷ ls) link t
     go true q e r = record { hop = 0; there = ap some (eqb-true l link q); then-step = omega (arith, some-same e) }
     go false q e r = let later = r e in record { hop = suc (later .hop); there = later .there; then-step = omega (arith, later .then-step) }
 
--- where there is an entry step, the packet enters the link in it
-pub entry-enters : (link s : ℕ) (path : List ℕ) (t : ℕ) → entryStep link s (linkClaims 0 path) ≡ some t → Enters s path link t
-entry-enters link s path t e =
-    let r = entry-enters-from link s 0 path t e in
-    record { hop = r .hop; there = r .there; then-step = omega (arith, r .then-step) }
-
 -- where there is none, the link is not on the path
-pub no-entry : (link s o : ℕ) (path : List ℕ) → entryStep link s (linkClaims o path) ≡ none → among link path ≡ false
-unfolding entryStep linkClaims
-no-entry link s o [] e = refl
-no-entry link s o (l ∷ ls) e = go (eqb l link) e (no-entry link s (suc o) ls)
+pub no-entry : (link s : ℕ) (path : List ℕ) → entryStep link s path ≡ none → among link path ≡ false
+unfolding entryStep
+no-entry link s [] e = refl
+no-entry link s (l ∷ ls) e = go (eqb l link) e (no-entry link (suc s) ls)
   where
-    go : (b : Bool) → pick b (some (s + o)) (entryStep link s (linkClaims (suc o) ls)) ≡ none
-        → (entryStep link s (linkClaims (suc o) ls) ≡ none → among link ls ≡ false) → (b || among link ls) ≡ false
+    go : (b : Bool) → pick b (some s) (entryStep link (suc s) ls) ≡ none → (entryStep link (suc s) ls ≡ none → among link ls ≡ false) → (b || among link ls) ≡ false
     go true e r = absurd (none-not-some (sym e))
     go false e r = r e
 
@@ -143,5 +135,5 @@ longLine =
 
 -- an accepted job with the greatest lead and the least
 pub lead-ends-reached : (led longLine (32767 ∷ 0 ∷ []) 0 1 254 ≡ is (pos 33021)) × (led longLine (32767 ∷ 0 ∷ []) 1 0 254 ≡ is (negsuc 33020))
-unfolding longLine linkAt pathsFrom paths linkVerdict walk packetVerdict linksVerdict packetsVerdict stopsAgree tables linkClaims entryStep entryAt lead startsVerdict startedVerdict led
+unfolding longLine linkAt pathsFrom paths linkVerdict walk packetVerdict linksVerdict packetsVerdict stopsAgree tables entryStep entryAt lead startsVerdict startedVerdict led
 lead-ends-reached = (refl, refl)

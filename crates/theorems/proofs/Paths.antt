@@ -1,8 +1,8 @@
 -- The walk accepts exactly the paths of specs/Path.antt. The links of a path exist, and none comes twice.
-use mathlib.Core.Path.{_≡_, refl, ap}
+use mathlib.Core.Path.{_≡_, refl, ap, _∙_}
 use mathlib.Core.Bool.{false}
 use mathlib.Core.List.{List, [], _∷_, _++_, append-nil, List·Memᴰ}
-use mathlib.Core.Logic.{_↔_, Iff·rfl}
+use mathlib.Core.Logic.{_↔_, Iff·trans}
 use mathlib.Core.Option.{Option, none, some}
 use Prim.Native.Nat.{ℕ, zero, suc, _≤_, _<_}
 use native.Mathlib.Omega.{arith}
@@ -16,9 +16,9 @@ use Rattle.counting.proofs.Places.{some-same, none-not-some, at-below, at-getD,
 use Rattle.counting.proofs.Distinct.{Distinct, distinct-snoc, distinct-new, distinct-occurs}
 use Rattle.rules.specs.Network.{Network, linkOf, linkAt}
 use Rattle.rules.specs.Path.{IsPath}
-use Rattle.rules.specs.Outcome.{Verdict, fine}
-use Rattle.rules.specs.Tables.{hopVerdict, walk}
-use Rattle.theorems.proofs.Verdicts.{eqb-iff, not-true-iff, refused-not-is, must-iff, then-iff}
+use Rattle.rules.specs.Outcome.{is, fine}
+use Rattle.rules.specs.Tables.{hop, walk}
+use Rattle.theorems.proofs.Verdicts.{eqb-iff, not-true-iff, refused-not-is, is-iff, must-iff, then-iff, onward-is, onward-of}
 
 -- a path from the node reached on, through the nodes that follow; none of those seen so far is visited again
 record Trail (net : Network) (seen : List ℕ) (reached : ℕ) (path nodes : List ℕ) : Type 0 where
@@ -28,22 +28,19 @@ record Trail (net : Network) (seen : List ℕ) (reached : ℕ) (path nodes : Lis
   once : Distinct (seen ++ nodes)
 
 -- one hop from the node reached, along a link with this origin and this end
-record Hop (reached : ℕ) (seen : List ℕ) (origin end : Option ℕ) (rest : ℕ → Verdict) : Type 0 where
-  node : ℕ
+record Hop (reached : ℕ) (seen : List ℕ) (origin end : Option ℕ) (node : ℕ) : Type 0 where
   leaves : origin ≡ some reached
   enters : end ≡ some node
   new : among node seen ≡ false
-  onwards : rest node ≡ fine
 
-hop-of-fine : (place reached : ℕ) (seen : List ℕ) (o e : Option ℕ) (rest : ℕ → Verdict) → hopVerdict place reached seen (linkOf o e) rest ≡ fine → Hop reached seen o e rest
-hop-of-fine place reached seen none e rest h = absurd (refused-not-is h)
-hop-of-fine place reached seen (some o) none rest h = absurd (refused-not-is h)
-hop-of-fine place reached seen (some o) (some e) rest h =
-    let (same, (new, onwards)) = then-iff (must-iff _ _ (eqb-iff o reached)) (then-iff (must-iff _ _ (not-true-iff (among e seen))) Iff·rfl) .0 h in
-    record { node = e; leaves = ap {B = Option ℕ} some same; enters = refl; new = new; onwards = onwards }
-
-fine-of-hop : (place reached : ℕ) (seen : List ℕ) (o e : Option ℕ) (rest : ℕ → Verdict) → Hop reached seen o e rest → hopVerdict place reached seen (linkOf o e) rest ≡ fine
-fine-of-hop place reached seen o e rest h = rw (h .leaves, h .enters, eq-eqb reached reached refl, h .new) (h .onwards)
+hop-is-iff : (place reached : ℕ) (seen : List ℕ) (o e : Option ℕ) (node : ℕ) → (hop place reached seen (linkOf o e) ≡ is node) ↔ Hop reached seen o e node
+hop-is-iff place reached seen none e node = (λ h. absurd (refused-not-is h), λ h. absurd (none-not-some (h .leaves)))
+hop-is-iff place reached seen (some o) none node = (λ h. absurd (refused-not-is h), λ h. absurd (none-not-some (h .enters)))
+hop-is-iff place reached seen (some o) (some e) node =
+    Iff·trans (then-iff (must-iff _ _ (eqb-iff o reached)) (then-iff (must-iff _ _ (not-true-iff (among e seen))) is-iff)) (
+      λ (same, (new, there)). record { leaves = ap {B = Option ℕ} some same; enters = ap {B = Option ℕ} some there; new = rw (← there) new },
+      λ h. (some-same (h .leaves), (rw (some-same (h .enters)) (h .new), some-same (h .enters))),
+    )
 
 -- a trail with one hop more in front, and with one less
 trail-cons : {net : Network} {seen : List ℕ} {reached node : ℕ} {path nodes : List ℕ} (l : ℕ)
@@ -70,22 +67,22 @@ module _ (net : Network) (place : ℕ) where
   trail-of-walk reached seen [] d h =
       ([], record { count = refl; leaves = λ p l v a. absurd (none-not-some a); enters = λ p l v a. absurd (none-not-some a); once = rw append-nil d })
   trail-of-walk reached seen (l ∷ ls) d h =
-      let t = hop-of-fine place reached seen (getElem? (net .origins) l) (getElem? (net .ends) l) _ h in
-      let (nodes, r) = trail-of-walk (t .node) (seen ++ (t .node ∷ [])) ls (distinct-snoc seen (t .node) d (t .new)) (t .onwards) in
-      (t .node ∷ nodes, trail-cons l (t .leaves) (t .enters) r)
+      let (node, a, b) = onward-is (hop place reached seen (linkAt net l)) _ h in
+      let t = hop-is-iff place reached seen (getElem? (net .origins) l) (getElem? (net .ends) l) node .0 a in
+      let (nodes, r) = trail-of-walk node (seen ++ (node ∷ [])) ls (distinct-snoc seen node d (t .new)) b in
+      (node ∷ nodes, trail-cons l (t .leaves) (t .enters) r)
 
   walk-of-trail : (reached : ℕ) (seen path nodes : List ℕ) → Trail net seen reached path nodes → walk net place reached seen path ≡ fine
   unfolding walk linkAt
   walk-of-trail reached seen [] nodes t = refl
   walk-of-trail reached seen (l ∷ ls) [] t = let e = t .count in absurd (omega arith)
   walk-of-trail reached seen (l ∷ ls) (v ∷ vs) t =
-      fine-of-hop place reached seen (getElem? (net .origins) l) (getElem? (net .ends) l) _ (record {
-        node = v;
+      let here = hop-is-iff place reached seen (getElem? (net .origins) l) (getElem? (net .ends) l) v .1 (record {
         leaves = t .leaves 0 l reached refl refl;
         enters = t .enters 0 l v refl refl;
         new = distinct-new seen v vs (t .once);
-        onwards = walk-of-trail v (seen ++ (v ∷ [])) ls vs (trail-tail t);
-      })
+      }) in
+      onward-of here _ ∙ walk-of-trail v (seen ++ (v ∷ [])) ls vs (trail-tail t)
 
 head-at : {A : Type 0} (xs : List A) {x : A} → getElem? xs 0 ≡ some x → (ys : List A) × (xs ≡ x ∷ ys)
 head-at [] e = absurd (none-not-some e)

@@ -10,7 +10,7 @@ use lib.Seq.{take-length, take-all}
 use Rattle.counting.specs.Count.{pick}
 use Rattle.rules.specs.Sizes.{textMost}
 use Rattle.rules.specs.Network.{Job, paths}
-use Rattle.rules.specs.Outcome.{is, must, onward}
+use Rattle.rules.specs.Outcome.{Outcome, is, must, onward}
 use Rattle.rules.specs.Greedy.{greedy}
 use Rattle.rules.specs.Bytes.{lineFeed, onto, split}
 use Rattle.rules.specs.JobText.{lineOf, withLine, withLines, firstLine, allLines, reading}
@@ -54,70 +54,85 @@ split-append c (b ∷ xs) ys ps e = go (eqb b c) (split c xs) refl ps e (split-a
 
 -- ---- lines are read one after another
 
-with-lines-cons : (n : ℕ) (j : Job) (p : List ℕ) (ps : List (List ℕ)) → (ps ≡ [] → ⊥) → withLines n j (p ∷ ps) ≡ onward (withLine n j (lineOf p)) (λ k. withLines (suc n) k ps)
-unfolding withLines
-with-lines-cons n j p [] h = absurd (h refl)
-with-lines-cons n j p (q ∷ ps) h = refl
+-- a list of pieces is read if there is a first one
+abbrev read : ℕ → Job → List (List ℕ) → Outcome Job
+read n j [] = is j
+read n j (p ∷ ps) = withLines n j p ps
 
--- accepted lines are ended, and whatever lines follow them go on from the job they say
-record Lines (n : ℕ) (j : Job) (ps : List (List ℕ)) (k : Job) : Type 0 where
+read-cons : (n : ℕ) (j : Job) (p : List ℕ) (ps : List (List ℕ)) (q : List ℕ) (qs : List (List ℕ)) → withLines n j p (ps ++ q ∷ qs) ≡ onward (withLine n j (lineOf p)) (λ k. read (suc n) k (ps ++ q ∷ qs))
+unfolding withLines
+read-cons n j p [] q qs = refl
+read-cons n j p (r ∷ ps) q qs = refl
+
+-- accepted lines are ended, and whatever follows them goes on from the job they say
+record Lines (n : ℕ) (j : Job) (p : List ℕ) (ps : List (List ℕ)) (k : Job) : Type 0 where
   whole : List (List ℕ)
   next : ℕ
-  ended : ps ≡ Ended whole
-  onwards : (rest : List (List ℕ)) → (rest ≡ [] → ⊥) → withLines n j (whole ++ rest) ≡ withLines next k rest
+  ended : p ∷ ps ≡ Ended whole
+  onwards : (q : List ℕ) (qs : List (List ℕ)) → read n j (whole ++ q ∷ qs) ≡ withLines next k q qs
 
-append-some : (ps qs : List (List ℕ)) → (qs ≡ [] → ⊥) → ps ++ qs ≡ [] → ⊥
-append-some [] qs h e = h e
-append-some (p ∷ ps) qs h e = cons≢nil e
-
-lines-of : (n : ℕ) (j : Job) (ps : List (List ℕ)) (k : Job) → (ps ≡ [] → ⊥) → withLines n j ps ≡ is k → Lines n j ps k
+lines-of : (n : ℕ) (j : Job) (p : List ℕ) (ps : List (List ℕ)) (k : Job) → withLines n j p ps ≡ is k → Lines n j p ps k
 unfolding withLines
-lines-of n j [] k some e = absurd (some refl)
-lines-of n j (p ∷ []) k some e =
+lines-of n j p [] k e =
     let (empty, same) = then-iff (must-iff 2 n (eqb-iff (length p) 0)) is-iff .0 e in
-    record { whole = []; next = n; ended = ap (λ (q : List ℕ). q ∷ []) (no-length p empty); onwards = λ rest h. rw same }
+    record { whole = []; next = n; ended = ap (λ (q : List ℕ). q ∷ []) (no-length p empty); onwards = λ q qs. rw same }
   where
     no-length : (p : List ℕ) → length p ≡ 0 → p ≡ []
     no-length [] e = refl
     no-length (b ∷ bs) e = absurd (omega arith)
-lines-of n j (p ∷ q ∷ ps) k some e =
-    let (i, a, b) = onward-is (withLine n j (lineOf p)) (λ i. withLines (suc n) i (q ∷ ps)) e in
-    let r = lines-of (suc n) i (q ∷ ps) k cons≢nil b in
+lines-of n j p (q ∷ ps) k e =
+    let (i, a, b) = onward-is (withLine n j (lineOf p)) (λ i. withLines (suc n) i q ps) e in
+    let r = lines-of (suc n) i q ps k b in
     record {
       whole = p ∷ r .whole;
       next = r .next;
       ended = ap (λ (qs : List (List ℕ)). p ∷ qs) (r .ended);
-      onwards = λ rest h. with-lines-cons n j p (r .whole ++ rest) (append-some (r .whole) rest h) ∙ onward-of a _ ∙ r .onwards rest h;
+      onwards = λ s ss. read-cons n j p (r .whole) s ss ∙ onward-of a _ ∙ r .onwards s ss;
     }
-
-all-lines-cons : (p : List ℕ) (ps : List (List ℕ)) → (ps ≡ [] → ⊥) → allLines (p ∷ ps) ≡ onward (firstLine (lineOf p)) (λ j. withLines 2 j ps)
-all-lines-cons p [] h = absurd (h refl)
-all-lines-cons p (q ∷ ps) h = refl
-
--- the lines of a whole text
-all-lines-of : (ps : List (List ℕ)) (k : Job) → allLines ps ≡ is k
-    → (whole : List (List ℕ)) × (next : ℕ) × (ps ≡ Ended whole) × ((rest : List (List ℕ)) → (rest ≡ [] → ⊥) → allLines (whole ++ rest) ≡ withLines next k rest)
-all-lines-of [] k e = absurd (refused-not-is e)
-all-lines-of (p ∷ []) k e = absurd (refused-not-is e)
-all-lines-of (p ∷ q ∷ ps) k e =
-    let (i, a, b) = onward-is (firstLine (lineOf p)) (λ i. withLines 2 i (q ∷ ps)) e in
-    let r = lines-of 2 i (q ∷ ps) k cons≢nil b in (
-      p ∷ r .whole,
-      r .next,
-      ap (λ (qs : List (List ℕ)). p ∷ qs) (r .ended),
-      λ rest h. all-lines-cons p (r .whole ++ rest) (append-some (r .whole) rest h) ∙ onward-of a _ ∙ r .onwards rest h,
-    )
 
 lines-accepted : (text : List ℕ) (j : Job) → reading text ≡ is j → allLines (split lineFeed text) ≡ is j
 unfolding reading
 lines-accepted text j e = then-is-iff (must (leb (length text) textMost) 1 0) (allLines (split lineFeed text)) j .0 e .1
 
+-- what an accepted text ends in goes on with whatever follows
+record Text (text : List ℕ) (j : Job) : Type 0 where
+  whole : List (List ℕ)
+  next : ℕ
+  ended : split lineFeed text ≡ Ended whole
+  onwards : (q : List ℕ) (qs : List (List ℕ)) → allLines (whole ++ q ∷ qs) ≡ withLines next j q qs
+
+text-of : (text : List ℕ) (j : Job) → reading text ≡ is j → Text text j
+text-of text j e = go (split lineFeed text) refl (lines-accepted text j e)
+  where
+    all-cons : (p : List ℕ) (ps : List (List ℕ)) (q : List ℕ) (qs : List (List ℕ)) → allLines (p ∷ (ps ++ q ∷ qs)) ≡ onward (firstLine (lineOf p)) (λ k. read 2 k (ps ++ q ∷ qs))
+    all-cons p [] q qs = refl
+    all-cons p (r ∷ ps) q qs = refl
+
+    go : (ps : List (List ℕ)) → split lineFeed text ≡ ps → allLines ps ≡ is j → Text text j
+    go [] s e = absurd (refused-not-is e)
+    go (p ∷ []) s e = absurd (refused-not-is e)
+    go (p ∷ q ∷ ps) s e =
+        let (i, a, b) = onward-is (firstLine (lineOf p)) (λ i. withLines 2 i q ps) e in
+        let r = lines-of 2 i q ps j b in
+        record {
+          whole = p ∷ r .whole;
+          next = r .next;
+          ended = s ∙ ap (λ (qs : List (List ℕ)). p ∷ qs) (r .ended);
+          onwards = λ t ts. all-cons p (r .whole) t ts ∙ onward-of a _ ∙ r .onwards t ts;
+        }
+
 -- an accepted text that begins with an accepted text has its packets in front
 pub paths-of-front : (front more : List ℕ) (i j : Job) → reading front ≡ is i → reading (front ++ more) ≡ is j → take (length (paths i)) (paths j) ≡ paths i
-paths-of-front front more i j e f =
-    let (whole, next, ended, onwards) = all-lines-of (split lineFeed front) i (lines-accepted front i e) in
-    let lines = rw (split-append lineFeed front more whole ended) at (lines-accepted (front ++ more) j f) in
-    text-front next i (split lineFeed more) j (reading-job front i e) (sym (onwards (split lineFeed more) (split-some lineFeed more)) ∙ lines)
+paths-of-front front more i j e f = go (split lineFeed more) refl
+  where
+    t : Text front i
+    t = text-of front i e
+
+    go : (ps : List (List ℕ)) → split lineFeed more ≡ ps → take (length (paths i)) (paths j) ≡ paths i
+    go [] s = absurd (split-some lineFeed more s)
+    go (p ∷ ps) s =
+        let lines : split lineFeed (front ++ more) ≡ t .whole ++ p ∷ ps = split-append lineFeed front more (t .whole) (t .ended) ∙ ap (λ (qs : List (List ℕ)). t .whole ++ qs) s in
+        text-front (t .next) i p ps j (reading-job front i e) (sym (t .onwards p ps) ∙ (rw lines at (lines-accepted (front ++ more) j f)))
 
 -- and gives them the starts that they have alone
 pub starts-of-front : (front more : List ℕ) (i j : Job) → reading front ≡ is i → reading (front ++ more) ≡ is j → take (length (greedy i)) (greedy j) ≡ greedy i

@@ -117,14 +117,13 @@ module _ (j : Job) (h : IsJob j) where
       rw (← r) (goes-on-packet source path room hops new)
   goes-on-line n bad k e = absurd (refused-not-is e)
 
-goes-on-lines : (n : ℕ) (ps : List (List ℕ)) (j k : Job) → IsJob j → withLines n j ps ≡ is k → GoesOn j k
+goes-on-lines : (n : ℕ) (p : List ℕ) (ps : List (List ℕ)) (j k : Job) → IsJob j → withLines n j p ps ≡ is k → GoesOn j k
 unfolding withLines
-goes-on-lines n [] j k h e = rw (← is-iff .0 e) (goes-on-self h)
-goes-on-lines n (p ∷ []) j k h e = let (t, r) = then-iff (must-iff 2 n (eqb-iff (length p) 0)) is-iff .0 e in rw (← r) (goes-on-self h)
-goes-on-lines n (p ∷ q ∷ ps) j k h e =
-    let (i, a, b) = onward-is (withLine n j (lineOf p)) (λ i. withLines (suc n) i (q ∷ ps)) e in
+goes-on-lines n p [] j k h e = let (t, r) = then-iff (must-iff 2 n (eqb-iff (length p) 0)) is-iff .0 e in rw (← r) (goes-on-self h)
+goes-on-lines n p (q ∷ ps) j k h e =
+    let (i, a, b) = onward-is (withLine n j (lineOf p)) (λ i. withLines (suc n) i q ps) e in
     let s = goes-on-line j h n (lineOf p) i a in
-    goes-on-trans s (goes-on-lines (suc n) (q ∷ ps) i k (s .job) b)
+    goes-on-trans s (goes-on-lines (suc n) q ps i k (s .job) b)
 
 pub first-job : (l : Line) (j : Job) → firstLine l ≡ is j → IsJob j
 first-job (nodes n) j e =
@@ -138,8 +137,8 @@ all-lines-job : (ps : List (List ℕ)) (j : Job) → allLines ps ≡ is j → Is
 all-lines-job [] j e = absurd (refused-not-is e)
 all-lines-job (p ∷ []) j e = absurd (refused-not-is e)
 all-lines-job (p ∷ q ∷ ps) j e =
-    let (i, a, b) = onward-is (firstLine (lineOf p)) (λ i. withLines 2 i (q ∷ ps)) e in
-    goes-on-lines 2 (q ∷ ps) i j (first-job (lineOf p) i a) b .job
+    let (i, a, b) = onward-is (firstLine (lineOf p)) (λ i. withLines 2 i q ps) e in
+    goes-on-lines 2 q ps i j (first-job (lineOf p) i a) b .job
 
 pub reading-job : (text : List ℕ) (j : Job) → reading text ≡ is j → IsJob j
 unfolding reading
@@ -151,5 +150,5 @@ pub reading-accepted : (text : List ℕ) (j : Job) → reading text ≡ is j →
 reading-accepted text j e = tables-fine-iff j .1 (reading-job text j e)
 
 -- the packets of a job stay in front of what later lines add
-pub text-front : (n : ℕ) (j : Job) (ps : List (List ℕ)) (k : Job) → IsJob j → withLines n j ps ≡ is k → take (length (paths j)) (paths k) ≡ paths j
-text-front n j ps k h e = let s = goes-on-lines n ps j k h e in rw (s .front, take-append-seam)
+pub text-front : (n : ℕ) (j : Job) (p : List ℕ) (ps : List (List ℕ)) (k : Job) → IsJob j → withLines n j p ps ≡ is k → take (length (paths j)) (paths k) ≡ paths j
+text-front n j p ps k h e = let s = goes-on-lines n p ps j k h e in rw (s .front, take-append-seam)
