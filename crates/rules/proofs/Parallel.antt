@@ -1,7 +1,6 @@
 -- Several links may join the same two nodes, and they are separate: packets on two of them both start at 0.
 use mathlib.Core.Path.{_≡_, refl}
-use mathlib.Core.List.{List, [], _∷_, _++_}
-use Prim.Native.Nat.{ℕ}
+use mathlib.Core.List.{[], _∷_}
 use Rattle.rules.specs.Network.{Job, pathsFrom, paths}
 use Rattle.rules.specs.Claims.{linkClaims, claims, takes, conflict, blocked}
 use Rattle.rules.specs.Greedy.{scan, crossings, firstFree, greedyAfter, greedy}

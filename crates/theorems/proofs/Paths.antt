@@ -9,7 +9,6 @@ use native.Mathlib.Omega.{arith}
 use native.Mathlib.Nat.{suc-inj}
 use lib.ListN.{length, getElem?}
 use lib.Seq.{append-snoc}
-use borrow.Author.Tests.{eq-eqb}
 use Rattle.counting.specs.Count.{among}
 use Rattle.counting.proofs.Hits.{occurs}
 use Rattle.counting.proofs.Places.{some-same, none-not-some, at-below, at-getD, mem-at}
