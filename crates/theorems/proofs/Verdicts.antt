@@ -54,3 +54,7 @@ onward-is (refused n p) f e = absurd (refused-not-is e)
 
 pub onward-of : {A B : Type 0} {o : Outcome A} {a : A} → o ≡ is a → (f : A → Outcome B) → onward o f ≡ f a
 onward-of e f = ap (λ o. onward o f) e
+
+pub onward-then : {A B : Type 0} (v : Verdict) (o : Outcome A) (f : A → Outcome B) → onward (v then o) f ≡ (v then onward o f)
+onward-then (is u) o f = refl
+onward-then (refused n p) o f = refl

@@ -1,0 +1,80 @@
+-- `job::links_verdict` meets its contract: the verdict is that of the links that are left.
+use mathlib.Core.Path.{_≡_, refl, sym, _∙_}
+use Prim.Native.Nat.{_-_, _≤_}
+use native.Mathlib.Omega.{arith}
+use borrow.Author.Needs.{needs}
+use borrow.Author.Tests.{le-leb, lt-leb, eq-eqb, ne-eqb}
+use lib.ListN.{length, drop}
+use Rattle.rules.specs.Tables.{linksVerdict}
+use Rattle.job.proofs.Laws.{links-turn, links-done, after-refusal, after-fine}
+use Rattle.job.proofs.links_verdict.Statement.{statement}
+use Rattle.job.proofs.links_verdict.Tie as tie
+
+abbrev Inv-loop : tie.InvT-loop
+Inv-loop nodes origins ends l₀ l = (l ≤ length origins) × (linksVerdict nodes 0 origins ends ≡ linksVerdict nodes l (drop l origins) (drop l ends))
+
+abbrev μ-loop : tie.MeasureT-loop
+μ-loop nodes origins ends l₀ l = length origins - l
+
+loop-holds : tie.Need-loop-holds Inv-loop μ-loop
+loop-holds c = (omega arith, refl)
+
+mul-link-verdict : tie.Need-mul-link-verdict Inv-loop μ-loop
+mul-link-verdict c = search needs
+
+shared-slice-read-link-verdict : tie.Need-shared-slice-read-link-verdict Inv-loop μ-loop
+shared-slice-read-link-verdict c = search needs
+
+mul-link-verdict-2 : tie.Need-mul-link-verdict-2 Inv-loop μ-loop
+mul-link-verdict-2 c = omega arith
+
+shared-slice-read-link-verdict-2 : tie.Need-shared-slice-read-link-verdict-2 Inv-loop μ-loop
+shared-slice-read-link-verdict-2 c = search needs
+
+cast-link-verdict : tie.Need-cast-link-verdict Inv-loop μ-loop
+cast-link-verdict c = search needs
+
+link-verdict-requires : tie.Need-link-verdict-requires Inv-loop μ-loop
+link-verdict-requires c κs = search needs
+
+enum-known-verdict : tie.Need-enum-known-verdict Inv-loop μ-loop
+enum-known-verdict c = search needs
+
+returns : tie.Need-returns Inv-loop μ-loop
+returns c = sym (c .before .before .before .before .before .before .before .loop .inv .1 ∙ links-turn _ _ _ _ (c .before .before .before .before .before .before .loop-test .taken) (omega arith) ∙ after-refusal (c .before .verdict .given .1) (c .before .before .before .link-verdict .ensures) _)
+
+enum-told : tie.Need-enum-told Inv-loop μ-loop
+enum-told c = search needs
+
+add-l : tie.Need-add-l Inv-loop μ-loop
+add-l c = search needs
+
+loop-less : tie.Need-loop-less Inv-loop μ-loop
+loop-less c = search needs
+
+loop-again : tie.Need-loop-again Inv-loop μ-loop
+loop-again c = (omega arith, c .before .before .before .before .before .before .loop .inv .1 ∙ links-turn _ _ _ _ (c .before .before .before .before .before .loop-test .taken) (omega arith) ∙ after-fine (c .enum-told .given .1) (c .before .before .link-verdict .ensures) _)
+
+returns-2 : tie.Need-returns-2 Inv-loop μ-loop
+returns-2 c = sym (c .before .loop .inv .1 ∙ links-done _ _ _ _ (c .loop-test .left))
+
+pub links-verdict-spec : {M : Type 1} → statement M
+links-verdict-spec =
+    tie.close
+    (tie.spec
+    Inv-loop
+    μ-loop
+    loop-holds
+    mul-link-verdict
+    shared-slice-read-link-verdict
+    mul-link-verdict-2
+    shared-slice-read-link-verdict-2
+    cast-link-verdict
+    link-verdict-requires
+    enum-known-verdict
+    returns
+    enum-told
+    add-l
+    loop-less
+    loop-again
+    returns-2)

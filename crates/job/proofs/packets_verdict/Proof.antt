@@ -1,0 +1,117 @@
+-- `job::packets_verdict` meets its contract: the verdict is that of the packets that are left, and the stops that are left agree.
+use mathlib.Core.Path.{_≡_, refl, sym, _∙_}
+use mathlib.Core.Bool.{true}
+use Prim.Native.Nat.{_+_, _-_, _≤_}
+use native.Mathlib.Omega.{arith}
+use borrow.Author.Needs.{needs}
+use lib.ListN.{length, drop}
+use denote.Ref.{now}
+use Rattle.rules.specs.Network.{paths}
+use Rattle.rules.specs.Tables.{packetsVerdict, stopsAgree}
+use Rattle.job.specs.Lists.{networkOf, jobOf}
+use Rattle.job.proofs.Laws.{after-refusal, after-fine, stops-part, packets-left, packets-turn, packets-done}
+use Rattle.job.proofs.packets_verdict.Statement.{statement}
+use Rattle.job.proofs.packets_verdict.Tie as tie
+
+abbrev Inv-loop : tie.InvT-loop
+Inv-loop nodes origins ends sources stops hops from₀ k₀ from k =
+    (k ≤ length sources)
+    × (stopsAgree from (drop k stops) (length hops) ≡ true)
+    × (packetsVerdict (networkOf nodes origins ends) 0 sources (paths (jobOf nodes origins ends sources stops hops)) ≡ packets-left (networkOf nodes origins ends) sources stops hops from k)
+
+abbrev μ-loop : tie.MeasureT-loop
+μ-loop nodes origins ends sources stops hops from₀ k₀ from k = length sources - k
+
+loop-holds : tie.Need-loop-holds Inv-loop μ-loop
+unfolding paths
+loop-holds c = (omega arith, c .before .before .before .before .before .pre .2, refl)
+
+mul-wide : tie.Need-mul-wide Inv-loop μ-loop
+mul-wide c = omega arith
+
+shared-slice-read-wide : tie.Need-shared-slice-read-wide Inv-loop μ-loop
+shared-slice-read-wide c = search needs
+
+wide-requires : tie.Need-wide-requires Inv-loop μ-loop
+wide-requires c κs = search needs
+
+-- the path that is lent lies within the hops
+part : (w : tie.After-wide Inv-loop μ-loop)
+    → let l = w .before .before .before in
+    let a = l .before .before .before .before .before .before .args in
+    (l .loop .from ≤ w .wide .result) × (w .wide .result ≤ length (now (a .hops))) × (stopsAgree (w .wide .result) (drop (l .loop .k + 1) (now (a .stops))) (length (now (a .hops))) ≡ true)
+part w =
+    let l = w .before .before .before in
+    let a = l .before .before .before .before .before .before .args in
+    stops-part (now (a .hops)) _ (now (a .stops)) (l .loop .k) (w .wide .ensures) (omega arith) (l .loop .inv .1)
+
+mul-packet-verdict : tie.Need-mul-packet-verdict Inv-loop μ-loop
+mul-packet-verdict c = omega (arith, part c)
+
+sub-packet-verdict : tie.Need-sub-packet-verdict Inv-loop μ-loop
+sub-packet-verdict c = part c .0
+
+part-packet-verdict-start : tie.Need-part-packet-verdict-start Inv-loop μ-loop
+part-packet-verdict-start c = part c .0
+
+part-packet-verdict-end : tie.Need-part-packet-verdict-end Inv-loop μ-loop
+part-packet-verdict-end c = part c .1
+
+mul-packet-verdict-2 : tie.Need-mul-packet-verdict-2 Inv-loop μ-loop
+mul-packet-verdict-2 c = omega arith
+
+shared-slice-read-packet-verdict : tie.Need-shared-slice-read-packet-verdict Inv-loop μ-loop
+shared-slice-read-packet-verdict c = search needs
+
+cast-packet-verdict : tie.Need-cast-packet-verdict Inv-loop μ-loop
+cast-packet-verdict c = omega arith
+
+packet-verdict-requires : tie.Need-packet-verdict-requires Inv-loop μ-loop
+packet-verdict-requires c κs = search needs
+
+enum-known-verdict : tie.Need-enum-known-verdict Inv-loop μ-loop
+enum-known-verdict c = search needs
+
+returns : tie.Need-returns Inv-loop μ-loop
+returns c = sym (c .before .before .before .before .before .before .before .before .before .loop .inv .2 ∙ packets-turn _ _ _ _ _ _ (c .before .before .before .before .before .before .wide .ensures) (c .before .before .before .before .before .before .before .before .loop-test .taken) (omega arith) ∙ after-refusal (c .before .verdict .given .1) (c .before .before .before .packet-verdict .ensures) _)
+
+enum-told : tie.Need-enum-told Inv-loop μ-loop
+enum-told c = search needs
+
+add-k : tie.Need-add-k Inv-loop μ-loop
+add-k c = search needs
+
+loop-less : tie.Need-loop-less Inv-loop μ-loop
+loop-less c = search needs
+
+loop-again : tie.Need-loop-again Inv-loop μ-loop
+loop-again c = (omega arith, part (c .before .before .before .before .before) .2, c .before .before .before .before .before .before .before .before .loop .inv .2 ∙ packets-turn _ _ _ _ _ _ (c .before .before .before .before .before .wide .ensures) (c .before .before .before .before .before .before .before .loop-test .taken) (omega arith) ∙ after-fine (c .enum-told .given .1) (c .before .before .packet-verdict .ensures) _)
+
+returns-2 : tie.Need-returns-2 Inv-loop μ-loop
+returns-2 c = sym (c .before .loop .inv .2 ∙ packets-done _ _ _ _ _ _ (c .loop-test .left))
+
+pub packets-verdict-spec : {M : Type 1} → statement M
+packets-verdict-spec =
+    tie.close
+    (tie.spec
+    Inv-loop
+    μ-loop
+    loop-holds
+    mul-wide
+    shared-slice-read-wide
+    wide-requires
+    mul-packet-verdict
+    sub-packet-verdict
+    part-packet-verdict-start
+    part-packet-verdict-end
+    mul-packet-verdict-2
+    shared-slice-read-packet-verdict
+    cast-packet-verdict
+    packet-verdict-requires
+    enum-known-verdict
+    returns
+    enum-told
+    add-k
+    loop-less
+    loop-again
+    returns-2)

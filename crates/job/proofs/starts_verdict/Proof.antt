@@ -1,0 +1,60 @@
+-- `job::starts_verdict` meets its contract: the verdict is that of the starts that are left.
+use mathlib.Core.Path.{_≡_, refl, sym, _∙_}
+use Prim.Native.Nat.{_-_, _≤_}
+use native.Mathlib.Omega.{arith}
+use borrow.Author.Needs.{needs}
+use borrow.Author.Tests.{le-leb, lt-leb, eq-eqb, ne-eqb}
+use lib.ListN.{length, drop}
+use Rattle.rules.specs.Answers.{startsVerdict}
+use Rattle.job.proofs.Laws.{starts-late, starts-on, starts-done}
+use Rattle.job.proofs.starts_verdict.Statement.{statement}
+use Rattle.job.proofs.starts_verdict.Tie as tie
+
+abbrev Inv-loop : tie.InvT-loop
+Inv-loop starts k₀ k = (k ≤ length starts) × (startsVerdict 0 starts ≡ startsVerdict k (drop k starts))
+
+abbrev μ-loop : tie.MeasureT-loop
+μ-loop starts k₀ k = length starts - k
+
+loop-holds : tie.Need-loop-holds Inv-loop μ-loop
+loop-holds c = (omega arith, refl)
+
+mul-if1 : tie.Need-mul-if1 Inv-loop μ-loop
+mul-if1 c = search needs
+
+shared-slice-read-if1 : tie.Need-shared-slice-read-if1 Inv-loop μ-loop
+shared-slice-read-if1 c = search needs
+
+cast-t7 : tie.Need-cast-t7 Inv-loop μ-loop
+cast-t7 c = search needs
+
+returns : tie.Need-returns Inv-loop μ-loop
+returns c = sym (c .before .before .before .loop .inv .1 ∙ starts-late _ _ (c .before .before .loop-test .taken) (c .if1 .taken))
+
+add-k : tie.Need-add-k Inv-loop μ-loop
+add-k c = search needs
+
+loop-less : tie.Need-loop-less Inv-loop μ-loop
+loop-less c = search needs
+
+loop-again : tie.Need-loop-again Inv-loop μ-loop
+loop-again c = (omega arith, c .before .before .before .loop .inv .1 ∙ starts-on _ _ (c .before .before .loop-test .taken) (c .if1 .left))
+
+returns-2 : tie.Need-returns-2 Inv-loop μ-loop
+returns-2 c = sym (c .before .loop .inv .1 ∙ starts-done _ _ (c .loop-test .left))
+
+pub starts-verdict-spec : {M : Type 1} → statement M
+starts-verdict-spec =
+    tie.close
+    (tie.spec
+    Inv-loop
+    μ-loop
+    loop-holds
+    mul-if1
+    shared-slice-read-if1
+    cast-t7
+    returns
+    add-k
+    loop-less
+    loop-again
+    returns-2)

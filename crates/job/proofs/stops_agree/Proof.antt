@@ -1,0 +1,60 @@
+-- `job::stops_agree` meets its contract: the stops agree if those that are left do.
+use mathlib.Core.Path.{_≡_, refl, sym, _∙_}
+use Prim.Native.Nat.{_-_, _≤_}
+use native.Mathlib.Omega.{arith}
+use borrow.Author.Needs.{needs}
+use borrow.Author.Tests.{le-leb, lt-leb, eq-eqb, ne-eqb}
+use lib.ListN.{length, drop}
+use Rattle.rules.specs.Tables.{stopsAgree}
+use Rattle.job.proofs.Laws.{stops-fall, stops-on, stops-done}
+use Rattle.job.proofs.stops_agree.Statement.{statement}
+use Rattle.job.proofs.stops_agree.Tie as tie
+
+abbrev Inv-loop : tie.InvT-loop
+Inv-loop stops hops last₀ k₀ last k = (k ≤ length stops) × (stopsAgree 0 stops hops ≡ stopsAgree last (drop k stops) hops)
+
+abbrev μ-loop : tie.MeasureT-loop
+μ-loop stops hops last₀ k₀ last k = length stops - k
+
+loop-holds : tie.Need-loop-holds Inv-loop μ-loop
+loop-holds c = (omega arith, refl)
+
+mul-wide : tie.Need-mul-wide Inv-loop μ-loop
+mul-wide c = search needs
+
+shared-slice-read-wide : tie.Need-shared-slice-read-wide Inv-loop μ-loop
+shared-slice-read-wide c = search needs
+
+wide-requires : tie.Need-wide-requires Inv-loop μ-loop
+wide-requires c κs = search needs
+
+returns : tie.Need-returns Inv-loop μ-loop
+returns c = sym (c .before .before .before .before .loop .inv .1 ∙ stops-fall _ _ _ _ (c .before .wide .ensures) (c .before .before .before .loop-test .taken) (c .if1 .taken))
+
+add-k : tie.Need-add-k Inv-loop μ-loop
+add-k c = search needs
+
+loop-less : tie.Need-loop-less Inv-loop μ-loop
+loop-less c = search needs
+
+loop-again : tie.Need-loop-again Inv-loop μ-loop
+loop-again c = (omega arith, c .before .before .before .before .loop .inv .1 ∙ stops-on _ _ _ _ (c .before .wide .ensures) (c .before .before .before .loop-test .taken) (c .if1 .left))
+
+returns-2 : tie.Need-returns-2 Inv-loop μ-loop
+returns-2 c = sym (c .before .loop .inv .1 ∙ stops-done _ _ _ _ (c .loop-test .left))
+
+pub stops-agree-spec : {M : Type 1} → statement M
+stops-agree-spec =
+    tie.close
+    (tie.spec
+    Inv-loop
+    μ-loop
+    loop-holds
+    mul-wide
+    shared-slice-read-wide
+    wide-requires
+    returns
+    add-k
+    loop-less
+    loop-again
+    returns-2)

@@ -1,0 +1,73 @@
+-- `job::visited` meets its contract: after the source, the node is sought among those that the links that are left enter.
+use mathlib.Core.Path.{_≡_, refl, sym, _∙_}
+use Prim.Native.Nat.{_-_, _≤_}
+use native.Mathlib.Omega.{arith}
+use borrow.Author.Needs.{needs}
+use borrow.Author.Tests.{le-leb, lt-leb, eq-eqb, ne-eqb}
+use lib.ListN.{length, drop}
+use Rattle.job.specs.Lists.{entered}
+use mathlib.Core.Bool.{_||_}
+use Rattle.job.proofs.Laws.{seen-from, seen-here, seen-on, seen-none}
+use Rattle.job.proofs.visited.Statement.{statement}
+use Rattle.job.proofs.visited.Tie as tie
+
+abbrev Inv-loop : tie.InvT-loop
+Inv-loop ends path count source node q₀ q = (q ≤ count) × (seen-from ends path count node 0 ≡ seen-from ends path count node q)
+
+abbrev μ-loop : tie.MeasureT-loop
+μ-loop ends path count source node q₀ q = count - q
+
+returns : tie.Need-returns Inv-loop μ-loop
+returns c = rw (eq-eqb _ _ (c .if1 .taken))
+
+loop-holds : tie.Need-loop-holds Inv-loop μ-loop
+loop-holds c = (omega arith, refl)
+
+mul-wide : tie.Need-mul-wide Inv-loop μ-loop
+mul-wide c = omega arith
+
+shared-slice-read-wide : tie.Need-shared-slice-read-wide Inv-loop μ-loop
+shared-slice-read-wide c = search needs
+
+wide-requires : tie.Need-wide-requires Inv-loop μ-loop
+wide-requires c κs = search needs
+
+mul-if2 : tie.Need-mul-if2 Inv-loop μ-loop
+mul-if2 c = let a = c .before .before .before .before .before .before .before in omega (arith, a .pre .1 (c .before .before .before .loop .q) (c .before .before .loop-test .taken))
+
+shared-slice-read-if2 : tie.Need-shared-slice-read-if2 Inv-loop μ-loop
+shared-slice-read-if2 c = let a = c .before .before .before .before .before .before .before .before in omega (arith, a .pre .1 (c .before .before .before .before .loop .q) (c .before .before .before .loop-test .taken))
+
+returns-2 : tie.Need-returns-2 Inv-loop μ-loop
+returns-2 c = rw (ne-eqb _ _ (c .before .before .before .before .before .before .if1 .left)) (sym (c .before .before .before .before .before .loop .inv .1 ∙ seen-here _ _ _ _ (c .before .before .before .before .before .before .before .before .before .pre .0) _ (c .before .before .wide .ensures) (c .before .before .before .before .loop-test .taken) (c .if2 .taken)))
+
+add-q : tie.Need-add-q Inv-loop μ-loop
+add-q c = search needs
+
+loop-less : tie.Need-loop-less Inv-loop μ-loop
+loop-less c = search needs
+
+loop-again : tie.Need-loop-again Inv-loop μ-loop
+loop-again c = (omega arith, c .before .before .before .before .before .loop .inv .1 ∙ seen-on _ _ _ _ (c .before .before .before .before .before .before .before .before .before .pre .0) _ (c .before .before .wide .ensures) (c .before .before .before .before .loop-test .taken) (c .if2 .left))
+
+returns-3 : tie.Need-returns-3 Inv-loop μ-loop
+returns-3 c = rw (ne-eqb _ _ (c .before .before .if1 .left)) (sym (c .before .loop .inv .1 ∙ seen-none _ _ _ _ (c .before .before .before .before .before .pre .0) _ (c .loop-test .left)))
+
+pub visited-spec : {M : Type 1} → statement M
+visited-spec =
+    tie.close
+    (tie.spec
+    Inv-loop
+    μ-loop
+    returns
+    loop-holds
+    mul-wide
+    shared-slice-read-wide
+    wide-requires
+    mul-if2
+    shared-slice-read-if2
+    returns-2
+    add-q
+    loop-less
+    loop-again
+    returns-3)

@@ -1,0 +1,94 @@
+-- `job::walk` meets its contract: the verdict is that of the walk that is left, and each way out of a turn is a law of the rules' walk.
+use mathlib.Core.Path.{_≡_, sym, _∙_}
+use mathlib.Core.List.{[], _∷_}
+use Prim.Native.Nat.{ℕ, _-_, _≤_, _<_}
+use native.Mathlib.Omega.{arith}
+use borrow.Author.Needs.{needs}
+use borrow.Author.Count.{below-none, below-more}
+use lib.ListN.{length, getD}
+use Rattle.rules.specs.Tables.{walk}
+use Rattle.job.specs.Lists.{networkOf}
+use Rattle.job.proofs.Laws.{walk-left, walk-begins, walk-no-origin, walk-no-end, walk-not-leaving, walk-revisited, walk-on, walk-done}
+use Rattle.job.proofs.walk.Statement.{statement}
+use Rattle.job.proofs.walk.Tie as tie
+
+abbrev Inv-loop : tie.InvT-loop
+Inv-loop origins ends path source place reached₀ p₀ reached p = (p ≤ length path) × ((q : ℕ) → q < p → getD path q 0 < length ends) × ((n : ℕ) → walk (networkOf n origins ends) place source (source ∷ []) path ≡ walk-left n origins ends path source place reached p)
+
+abbrev μ-loop : tie.MeasureT-loop
+μ-loop origins ends path source place reached₀ p₀ reached p = length path - p
+
+loop-holds : tie.Need-loop-holds Inv-loop μ-loop
+loop-holds c = (omega arith, below-none _, λ n. walk-begins _ _ _ _ _ _)
+
+mul-wide : tie.Need-mul-wide Inv-loop μ-loop
+mul-wide c = search needs
+
+shared-slice-read-wide : tie.Need-shared-slice-read-wide Inv-loop μ-loop
+shared-slice-read-wide c = search needs
+
+wide-requires : tie.Need-wide-requires Inv-loop μ-loop
+wide-requires c κs = search needs
+
+returns : tie.Need-returns Inv-loop μ-loop
+returns c = λ n. sym (c .before .before .before .before .loop .inv .2 n ∙ walk-no-origin _ _ _ _ _ _ _ _ (c .before .wide .ensures) (c .before .before .before .loop-test .taken) (c .if1 .taken))
+
+returns-2 : tie.Need-returns-2 Inv-loop μ-loop
+returns-2 c = λ n. sym (c .before .before .before .before .before .loop .inv .2 n ∙ walk-no-end _ _ _ _ _ _ _ _ (c .before .before .wide .ensures) (c .before .before .before .before .loop-test .taken) (c .before .if1 .left) (c .if2 .taken))
+
+mul-if3 : tie.Need-mul-if3 Inv-loop μ-loop
+mul-if3 c = search needs
+
+shared-slice-read-if3 : tie.Need-shared-slice-read-if3 Inv-loop μ-loop
+shared-slice-read-if3 c = search needs
+
+returns-3 : tie.Need-returns-3 Inv-loop μ-loop
+returns-3 c = λ n. sym (c .before .before .before .before .before .before .before .loop .inv .2 n ∙ walk-not-leaving _ _ _ _ _ _ _ _ (c .before .before .before .before .wide .ensures) (c .before .before .before .before .before .before .loop-test .taken) (c .before .before .before .if1 .left) (c .before .before .if2 .left) (c .if3 .taken))
+
+mul-node : tie.Need-mul-node Inv-loop μ-loop
+mul-node c = search needs
+
+shared-slice-read-node : tie.Need-shared-slice-read-node Inv-loop μ-loop
+shared-slice-read-node c = search needs
+
+visited-requires : tie.Need-visited-requires Inv-loop μ-loop
+visited-requires c κs = (c .before .before .before .before .before .before .before .before .loop .inv .0, c .before .before .before .before .before .before .before .before .loop .inv .1)
+
+returns-4 : tie.Need-returns-4 Inv-loop μ-loop
+returns-4 c = λ n. sym (c .before .before .before .before .before .before .before .before .before .before .loop .inv .2 n ∙ walk-revisited _ _ _ _ _ _ _ _ (c .before .before .before .before .before .before .before .wide .ensures) (c .before .before .before .before .before .before .before .before .before .loop-test .taken) (c .before .before .before .before .before .before .if1 .left) (c .before .before .before .before .before .if2 .left) (c .before .before .before .if3 .left) (sym (c .before .visited .ensures) ∙ c .if4 .taken))
+
+add-p : tie.Need-add-p Inv-loop μ-loop
+add-p c = search needs
+
+loop-less : tie.Need-loop-less Inv-loop μ-loop
+loop-less c = search needs
+
+loop-again : tie.Need-loop-again Inv-loop μ-loop
+loop-again c = (omega arith, below-more _ _ (c .before .before .before .before .before .before .before .before .before .before .loop .inv .1) (rw (← c .before .before .before .before .before .before .before .wide .ensures) (c .before .before .before .before .before .if2 .left)), λ n. c .before .before .before .before .before .before .before .before .before .before .loop .inv .2 n ∙ walk-on _ _ _ _ _ _ _ _ (c .before .before .before .before .before .before .before .wide .ensures) (c .before .before .before .before .before .before .before .before .before .loop-test .taken) (c .before .before .before .before .before .before .if1 .left) (c .before .before .before .before .before .if2 .left) (c .before .before .before .if3 .left) (sym (c .before .visited .ensures) ∙ c .if4 .left))
+
+returns-5 : tie.Need-returns-5 Inv-loop μ-loop
+returns-5 c = λ n. sym (c .before .loop .inv .2 n ∙ walk-done _ _ _ _ _ _ _ _ (c .loop-test .left))
+
+pub walk-spec : {M : Type 1} → statement M
+walk-spec =
+    tie.close
+    (tie.spec
+    Inv-loop
+    μ-loop
+    loop-holds
+    mul-wide
+    shared-slice-read-wide
+    wide-requires
+    returns
+    returns-2
+    mul-if3
+    shared-slice-read-if3
+    returns-3
+    mul-node
+    shared-slice-read-node
+    visited-requires
+    returns-4
+    add-p
+    loop-less
+    loop-again
+    returns-5)

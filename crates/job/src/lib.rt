@@ -1,0 +1,353 @@
+// A job as lists: its sizes, steps and hops, what can be refused, and the verdict on its tables.
+ghost use mathlib.Core.Path.{_≡_};
+ghost use mathlib.Core.Bool.{true};
+ghost use mathlib.Core.List.{[], _∷_};
+ghost use Prim.Native.Nat.{ℕ, _+_, _≤_, _<_};
+ghost use lib.ListN.{length, getD, take};
+ghost use Rattle.counting.specs.Count.{among};
+ghost use Rattle.rules.specs.Sizes.{nodesMost, linksMost, packetsMost, pathMost, hopsMost, textMost, startMost};
+ghost use Rattle.rules.specs.Network.{paths};
+ghost use Rattle.rules.specs.Tables.{linkVerdict, walk as walkVerdict, packetVerdict, linksVerdict, packetsVerdict, stopsAgree, tables as tablesVerdict};
+ghost use Rattle.rules.specs.Answers.{startsVerdict, startedVerdict};
+ghost use Rattle.job.specs.Lists.{networkOf, jobOf, entered, sizesFit};
+ghost use Rattle.job.specs.Told.{verdictOf};
+
+// The counts of a job whose lists stand beside it.
+pub struct Job {
+    pub nodes: u16,
+    pub links: u16,
+    pub packets: u16,
+    pub hops: u16,
+}
+
+impl Job {
+    pub const NODES: usize = 1024;
+
+    pub const LINKS: usize = 4096;
+
+    pub const PACKETS: usize = 1024;
+    // hops of one path
+    pub const PATH: usize = 255;
+    // hops of all paths together
+    pub const HOPS: usize = 16384;
+    // bytes of a job's text
+    pub const TEXT: usize = 65535;
+    // the latest start that may be handed in
+    pub const START: u16 = 32767;
+
+    // Each of these is the number that the rules name.
+    pub fn nodes_most() -> usize
+        ensures { λ r. ⌜ r ≡ nodesMost ⌝ }
+    {
+        Job::NODES
+    }
+
+    pub fn links_most() -> usize
+        ensures { λ r. ⌜ r ≡ linksMost ⌝ }
+    {
+        Job::LINKS
+    }
+
+    pub fn packets_most() -> usize
+        ensures { λ r. ⌜ r ≡ packetsMost ⌝ }
+    {
+        Job::PACKETS
+    }
+
+    pub fn path_most() -> usize
+        ensures { λ r. ⌜ r ≡ pathMost ⌝ }
+    {
+        Job::PATH
+    }
+
+    pub fn hops_most() -> usize
+        ensures { λ r. ⌜ r ≡ hopsMost ⌝ }
+    {
+        Job::HOPS
+    }
+
+    pub fn text_most() -> usize
+        ensures { λ r. ⌜ r ≡ textMost ⌝ }
+    {
+        Job::TEXT
+    }
+
+    pub fn start_most() -> u16
+        ensures { λ r. ⌜ r ≡ startMost ⌝ }
+    {
+        Job::START
+    }
+}
+
+// A position along a path.
+pub struct Hop(pub u16);
+
+// A step of the clock.
+pub struct Step(pub u32);
+
+impl Step {
+    // Only a start added to a hop position gives a step.
+    pub fn of(start: u16, hop: Hop) -> Step
+        ensures { λ r. ⌜ r .0 ≡ start + hop .0 ⌝ }
+    {
+        Step(start as u32 + hop.0 as u32)
+    }
+}
+
+// What can be refused, with its place: a line of a text, a link or a packet.
+pub enum Refusal {
+    TextTooLong,
+    BadForm(u32),
+    Size(u32),
+    NoNode(u32),
+    SelfLink(u32),
+    NoLink(u32),
+    NotLeaving(u32),
+    Revisited(u32),
+    Disagree,
+    ShortRoom,
+    StartCount,
+    LateStart(u32),
+    NoLead,
+}
+
+pub enum Verdict {
+    Fine,
+    Refused(Refusal),
+}
+
+fn wide(x: u16) -> usize
+    ensures { λ r. ⌜ r ≡ x ⌝ }
+{
+    x as usize
+}
+
+// One link: its nodes, then that they differ.
+pub fn link_verdict(nodes: u16, from: u16, to: u16, place: u32) -> Verdict
+    ensures { λ r. ⌜ verdictOf r ≡ linkVerdict nodes place from to ⌝ }
+{
+    if from >= nodes {
+        return Verdict::Refused(Refusal::NoNode(place));
+    }
+    if to >= nodes {
+        return Verdict::Refused(Refusal::NoNode(place));
+    }
+    if from == to {
+        return Verdict::Refused(Refusal::SelfLink(place));
+    }
+    Verdict::Fine
+}
+
+// Whether the node is the source, or one that the first links of the path enter.
+fn visited(ends: &[u16], path: &[u16], count: usize, source: u16, node: u16) -> bool
+    requires { ⌜ (count ≤ length (now path)) × ((q : ℕ) → q < count → getD (now path) q 0 < length (now ends)) ⌝ }
+    ensures { λ r. ⌜ r ≡ among node (source ∷ entered (now (ends .entry)) (take count (now (path .entry)))) ⌝ }
+{
+    if source == node {
+        return true;
+    }
+    let mut q = 0;
+    while q < count {
+        let link = wide(path[q]);
+        if ends[link] == node {
+            return true;
+        }
+        q += 1;
+    }
+    false
+}
+
+// The path hop by hop, from its source.
+fn walk(origins: &[u16], ends: &[u16], path: &[u16], source: u16, place: u32) -> Verdict
+    ensures { λ r. ⌜ ((n : ℕ) → verdictOf r ≡ walkVerdict (networkOf n (now (origins .entry)) (now (ends .entry))) place source (source ∷ []) (now (path .entry))) ⌝ }
+{
+    let mut reached = source;
+    let mut p = 0;
+    while p < path.len() {
+        let link = wide(path[p]);
+        if link >= origins.len() {
+            return Verdict::Refused(Refusal::NoLink(place));
+        }
+        if link >= ends.len() {
+            return Verdict::Refused(Refusal::NoLink(place));
+        }
+        if origins[link] != reached {
+            return Verdict::Refused(Refusal::NotLeaving(place));
+        }
+        let node = ends[link];
+        if visited(ends, path, p, source, node) {
+            return Verdict::Refused(Refusal::Revisited(place));
+        }
+        reached = node;
+        p += 1;
+    }
+    Verdict::Fine
+}
+
+// One packet: its path's length, its source, then its hops.
+pub fn packet_verdict(
+    nodes: u16,
+    origins: &[u16],
+    ends: &[u16],
+    path: &[u16],
+    source: u16,
+    place: u32,
+) -> Verdict
+    ensures { λ r. ⌜ verdictOf r ≡ packetVerdict (networkOf nodes (now (origins .entry)) (now (ends .entry))) place source (now (path .entry)) ⌝ }
+{
+    if path.len() > Job::PATH {
+        return Verdict::Refused(Refusal::Size(place));
+    }
+    if source >= nodes {
+        return Verdict::Refused(Refusal::NoNode(place));
+    }
+    walk(origins, ends, path, source, place)
+}
+
+// Whether the stops never fall, and the last is the number of hops.
+fn stops_agree(stops: &[u16], hops: usize) -> bool
+    ensures { λ r. ⌜ r ≡ stopsAgree 0 (now (stops .entry)) hops ⌝ }
+{
+    let mut last = 0;
+    let mut k = 0;
+    while k < stops.len() {
+        let stop = wide(stops[k]);
+        if stop < last {
+            return false;
+        }
+        last = stop;
+        k += 1;
+    }
+    last == hops
+}
+
+fn sizes_fit(nodes: u16, links: usize, packets: usize, hops: usize) -> bool
+    ensures { λ r. ⌜ r ≡ sizesFit nodes links packets hops ⌝ }
+{
+    nodes >= 1
+        && wide(nodes) <= Job::NODES
+        && links <= Job::LINKS
+        && packets <= Job::PACKETS
+        && hops <= Job::HOPS
+}
+
+// The links in order.
+fn links_verdict(nodes: u16, origins: &[u16], ends: &[u16]) -> Verdict
+    requires { ⌜ (length (now ends) ≡ length (now origins)) × (length (now origins) ≤ linksMost) ⌝ }
+    ensures { λ r. ⌜ verdictOf r ≡ linksVerdict nodes 0 (now (origins .entry)) (now (ends .entry)) ⌝ }
+{
+    let mut l = 0;
+    while l < origins.len() {
+        let verdict = link_verdict(nodes, origins[l], ends[l], l as u32);
+        match verdict {
+            Verdict::Refused(refusal) => {
+                return Verdict::Refused(refusal);
+            }
+            Verdict::Fine => {}
+        }
+        l += 1;
+    }
+    Verdict::Fine
+}
+
+// The packets in order.
+fn packets_verdict(
+    nodes: u16,
+    origins: &[u16],
+    ends: &[u16],
+    sources: &[u16],
+    stops: &[u16],
+    hops: &[u16],
+) -> Verdict
+    requires { ⌜ (length (now stops) ≡ length (now sources)) × (length (now sources) ≤ packetsMost) × (stopsAgree 0 (now stops) (length (now hops)) ≡ true) ⌝ }
+    ensures { λ r. ⌜ verdictOf r ≡ packetsVerdict (networkOf nodes (now (origins .entry)) (now (ends .entry))) 0 (now (sources .entry)) (paths (jobOf nodes (now (origins .entry)) (now (ends .entry)) (now (sources .entry)) (now (stops .entry)) (now (hops .entry)))) ⌝ }
+{
+    let mut from = 0;
+    let mut k = 0;
+    while k < sources.len() {
+        let to = wide(stops[k]);
+        let verdict = packet_verdict(nodes, origins, ends, &hops[from..to], sources[k], k as u32);
+        match verdict {
+            Verdict::Refused(refusal) => {
+                return Verdict::Refused(refusal);
+            }
+            Verdict::Fine => {}
+        }
+        from = to;
+        k += 1;
+    }
+    Verdict::Fine
+}
+
+// The tables of a job: that they agree, their sizes, then links and packets.
+pub fn tables(
+    nodes: u16,
+    origins: &[u16],
+    ends: &[u16],
+    sources: &[u16],
+    stops: &[u16],
+    hops: &[u16],
+) -> Verdict
+    ensures { λ r. ⌜ verdictOf r ≡ tablesVerdict (jobOf nodes (now (origins .entry)) (now (ends .entry)) (now (sources .entry)) (now (stops .entry)) (now (hops .entry))) ⌝ }
+{
+    if origins.len() != ends.len() {
+        return Verdict::Refused(Refusal::Disagree);
+    }
+    if sources.len() != stops.len() {
+        return Verdict::Refused(Refusal::Disagree);
+    }
+    if !stops_agree(stops, hops.len()) {
+        return Verdict::Refused(Refusal::Disagree);
+    }
+    if !sizes_fit(nodes, origins.len(), sources.len(), hops.len()) {
+        return Verdict::Refused(Refusal::Size(0));
+    }
+    let links = links_verdict(nodes, origins, ends);
+    match links {
+        Verdict::Refused(refusal) => {
+            return Verdict::Refused(refusal);
+        }
+        Verdict::Fine => {}
+    }
+    packets_verdict(nodes, origins, ends, sources, stops, hops)
+}
+
+// The lowest packet whose start is too late.
+fn starts_verdict(starts: &[u16]) -> Verdict
+    requires { ⌜ length (now starts) ≤ packetsMost ⌝ }
+    ensures { λ r. ⌜ verdictOf r ≡ startsVerdict 0 (now (starts .entry)) ⌝ }
+{
+    let mut k = 0;
+    while k < starts.len() {
+        if starts[k] > Job::START {
+            return Verdict::Refused(Refusal::LateStart(k as u32));
+        }
+        k += 1;
+    }
+    Verdict::Fine
+}
+
+// A job with starts made elsewhere: its tables, a start for each packet, none too late.
+pub fn started(
+    nodes: u16,
+    origins: &[u16],
+    ends: &[u16],
+    sources: &[u16],
+    stops: &[u16],
+    hops: &[u16],
+    starts: &[u16],
+) -> Verdict
+    ensures { λ r. ⌜ verdictOf r ≡ startedVerdict (jobOf nodes (now (origins .entry)) (now (ends .entry)) (now (sources .entry)) (now (stops .entry)) (now (hops .entry))) (now (starts .entry)) ⌝ }
+{
+    let verdict = tables(nodes, origins, ends, sources, stops, hops);
+    match verdict {
+        Verdict::Refused(refusal) => {
+            return Verdict::Refused(refusal);
+        }
+        Verdict::Fine => {}
+    }
+    if starts.len() != sources.len() {
+        return Verdict::Refused(Refusal::StartCount);
+    }
+    starts_verdict(starts)
+}
