@@ -1,13 +1,13 @@
--- Laws of the rules' verdicts as the code meets them: lists by their places, one law for a turn of each loop.
+-- Laws of the rules' verdicts as the code meets them. Of each loop, what the rest of its lists is at a turn and after the
+-- last; of each chain of tests, a law for every way out.
 use mathlib.Core.Path.{_≡_, refl, sym, _∙_}
 use mathlib.Core.Bool.{Bool, true, false, not, _&&_, _||_}
-use mathlib.Core.List.{List, [], _∷_, _++_, map, map-append}
-use mathlib.Core.Option.{none, some}
+use mathlib.Core.List.{List, [], _∷_, _++_, map-append}
 use Prim.Native.Nat.{ℕ, zero, suc, _+_, _-_, _≤_, _<_}
 use native.Mathlib.Numerals.{add-one}
 use native.Mathlib.Nat.{sub-zero, zero-sub, suc-sub-suc}
 use native.Mathlib.Omega.{arith}
-use borrow.Author.Tests.{leb-true, eqb-true, lt-leb, le-leb, eq-eqb, ne-eqb}
+use borrow.Author.Tests.{leb-true, lt-leb, le-leb, eq-eqb, ne-eqb}
 use lib.Dec.{eqb, leb}
 use lib.ListN.{length, getD, take, drop, drop-of-length-le}
 use lib.Seq.{take-suc, drop-cons, getD-take, length-take-le, take-nil, slice}
@@ -18,7 +18,7 @@ use Rattle.theorems.proofs.Accepted.{hops-from}
 use Rattle.theorems.proofs.Verdicts.{onward-then}
 use Rattle.rules.specs.Sizes.{nodesMost, linksMost, packetsMost, hopsMost, startMost}
 use Rattle.rules.specs.Network.{Network, Job, linkAt, pathsFrom, paths}
-use Rattle.rules.specs.Outcome.{Verdict, fine, refused, must, _then_}
+use Rattle.rules.specs.Outcome.{Outcome, Verdict, fine, refused, must, _then_}
 use Rattle.rules.specs.Tables.{linkVerdict, linksVerdict, walk, packetVerdict, packetsVerdict, stopsAgree, tables}
 use Rattle.rules.specs.Answers.{startsVerdict}
 use Rattle.job.specs.declared.Refusal.{Refusal}
@@ -28,9 +28,9 @@ use Rattle.job.specs.declared.Verdict.the-variants.{Fine, Refused}
 use Rattle.job.specs.Lists.{networkOf, entered, sizesFit}
 use Rattle.job.specs.Told.{refusalOf, verdictOf}
 
--- after a check that refuses nothing follows; after one that does not, what follows is left
-pub after-refusal : {w : Told} {r : Refusal} {v : Verdict} → w ≡ Refused r → verdictOf w ≡ v → (o : Verdict) → (v then o) ≡ refusalOf r
-after-refusal {r = r} d e o = rw (← e, d) (stays r)
+-- a check that refuses is the whole answer; after one that does not, what follows is
+pub after-refusal : {A : Type 0} {w : Told} {r : Refusal} {v : Verdict} → w ≡ Refused r → verdictOf w ≡ v → (o : Outcome A) → (v then o) ≡ refusalOf r
+after-refusal {A} {r = r} d e o = rw (← e, d) (stays r)
   where
     stays : (r : Refusal) → (refusalOf r then o) ≡ refusalOf r
     stays TextTooLong = refl
@@ -47,20 +47,20 @@ after-refusal {r = r} d e o = rw (← e, d) (stays r)
     stays (LateStart p) = refl
     stays NoLead = refl
 
-pub after-fine : {w : Told} {v : Verdict} → w ≡ Fine → verdictOf w ≡ v → (o : Verdict) → (v then o) ≡ o
+pub after-fine : {A : Type 0} {w : Told} {v : Verdict} → w ≡ Fine → verdictOf w ≡ v → (o : Outcome A) → (v then o) ≡ o
 after-fine d e o = rw (← e, d)
 
 -- tests with one refusal are one test
-pub must-and : (s t : Bool) (n p : ℕ) (o : Verdict) → (must (s && t) n p then o) ≡ (must s n p then must t n p then o)
+must-and : (s t : Bool) (n p : ℕ) (o : Verdict) → (must (s && t) n p then o) ≡ (must s n p then must t n p then o)
 must-and true t n p o = refl
 must-and false t n p o = refl
 
 -- where a list goes on at a place
-from-place : (xs : List ℕ) (i : ℕ) → i < length xs → drop i xs ≡ getD xs i 0 ∷ drop (i + 1) xs
+pub from-place : (xs : List ℕ) (i : ℕ) → i < length xs → drop i xs ≡ getD xs i 0 ∷ drop (i + 1) xs
 from-place xs i h = rw (add-one, drop-cons xs i 0)
 
 -- the nodes entered by the first links, one more
-pub entered-more : (ends path : List ℕ) (p : ℕ) → p < length path → entered ends (take (p + 1) path) ≡ entered ends (take p path) ++ (getD ends (getD path p 0) 0 ∷ [])
+entered-more : (ends path : List ℕ) (p : ℕ) → p < length path → entered ends (take (p + 1) path) ≡ entered ends (take p path) ++ (getD ends (getD path p 0) 0 ∷ [])
 unfolding entered
 entered-more ends path p h = rw (add-one, take-suc path p 0, map-append)
 
@@ -113,12 +113,12 @@ module _ (n : ℕ) (origins ends path : List ℕ) (source place : ℕ) where
         pub walk-not-leaving : (getD origins link 0 ≡ reached → ⊥) → walk-left reached p ≡ refused 7 place
         walk-not-leaving m = rw (walk-hop, ne-eqb _ _ m)
 
-        module _ (m : getD origins link 0 ≡ reached) where
-          pub walk-revisited : among (getD ends link 0) (source ∷ entered ends (take p path)) ≡ true → walk-left reached p ≡ refused 8 place
-          walk-revisited s = rw (walk-hop, eq-eqb _ _ m, s)
+        module _ (m : getD origins link 0 ≡ reached) {seen : Bool} (s : seen ≡ among (getD ends link 0) (source ∷ entered ends (take p path))) where
+          pub walk-revisited : seen ≡ true → walk-left reached p ≡ refused 8 place
+          walk-revisited a = rw (walk-hop, eq-eqb _ _ m, ← s, a)
 
-          pub walk-on : among (getD ends link 0) (source ∷ entered ends (take p path)) ≡ false → walk-left reached p ≡ walk-left (getD ends link 0) (p + 1)
-          walk-on s = rw (walk-hop, eq-eqb _ _ m, s)
+          pub walk-on : seen ≡ false → walk-left reached p ≡ walk-left (getD ends link 0) (p + 1)
+          walk-on a = rw (walk-hop, eq-eqb _ _ m, ← s, a)
 
   pub walk-done : (reached p : ℕ) → length path ≤ p → walk-left reached p ≡ fine
   unfolding walk
@@ -127,7 +127,7 @@ module _ (n : ℕ) (origins ends path : List ℕ) (source place : ℕ) where
 -- the stops from the k-th on
 module _ (hops last : ℕ) (stops : List ℕ) (k : ℕ) where
   module _ {stop : ℕ} (e : stop ≡ getD stops k 0) (h : k < length stops) where
-    pub stops-turn : stopsAgree last (drop k stops) hops ≡ (leb last stop && stopsAgree stop (drop (k + 1) stops) hops)
+    stops-turn : stopsAgree last (drop k stops) hops ≡ (leb last stop && stopsAgree stop (drop (k + 1) stops) hops)
     unfolding stopsAgree
     stops-turn = rw (from-place stops k, ← e)
 
@@ -142,7 +142,7 @@ module _ (hops last : ℕ) (stops : List ℕ) (k : ℕ) where
   stops-done h = rw (drop-of-length-le stops h)
 
 -- the part of a list that code lends is the part that the rules cut
-part-slice : (f t : ℕ) (xs : List ℕ) → take (t - f) (drop f xs) ≡ slice f t xs
+pub part-slice : (f t : ℕ) (xs : List ℕ) → take (t - f) (drop f xs) ≡ slice f t xs
 part-slice zero t xs = rw sub-zero
 part-slice (suc f) zero xs = rw zero-sub
 part-slice (suc f) (suc t) [] = take-nil (suc t - suc f)
@@ -161,23 +161,46 @@ module _ (net : Network) (sources stops hops : List ℕ) where
   abbrev pub packets-left : (from k : ℕ) → Verdict
   packets-left from k = packetsVerdict net k (drop k sources) (pathsFrom from (drop k stops) hops)
 
-  pub packets-turn : (from k : ℕ) {to : ℕ} → to ≡ getD stops k 0 → k < length sources → k < length stops → packets-left from k ≡ (packetVerdict net k (getD sources k 0) (take (to - from) (drop from hops)) then packets-left to (k + 1))
-  unfolding packetsVerdict pathsFrom
-  packets-turn from k {to} e h l = rw (from-place sources k, from-place stops k, ← e, add-one k, part-slice)
+  module _ (from k : ℕ) {to : ℕ} (e : to ≡ getD stops k 0) (h : k < length sources) (l : k < length stops) where
+    abbrev packet-here : Verdict
+    packet-here = packetVerdict net k (getD sources k 0) (take (to - from) (drop from hops))
+
+    packets-turn : packets-left from k ≡ (packet-here then packets-left to (k + 1))
+    unfolding packetsVerdict pathsFrom
+    packets-turn = rw (from-place sources k, from-place stops k, ← e, add-one k, part-slice)
+
+    pub packets-refused : {w : Told} {r : Refusal} → w ≡ Refused r → verdictOf w ≡ packet-here → packets-left from k ≡ refusalOf r
+    packets-refused d v = packets-turn ∙ after-refusal d v _
+
+    pub packets-on : {w : Told} → w ≡ Fine → verdictOf w ≡ packet-here → packets-left from k ≡ packets-left to (k + 1)
+    packets-on d v = packets-turn ∙ after-fine d v _
 
   pub packets-done : (from k : ℕ) → length sources ≤ k → packets-left from k ≡ fine
   unfolding packetsVerdict
   packets-done from k h = rw (drop-of-length-le sources h)
 
 -- the links from the l-th on
-module _ (nodes : ℕ) (origins ends : List ℕ) (l : ℕ) where
-  pub links-turn : l < length origins → l < length ends → linksVerdict nodes l (drop l origins) (drop l ends) ≡ (linkVerdict nodes l (getD origins l 0) (getD ends l 0) then linksVerdict nodes (l + 1) (drop (l + 1) origins) (drop (l + 1) ends))
-  unfolding linksVerdict
-  links-turn h k = rw (from-place origins l, from-place ends l, add-one l)
+module _ (nodes : ℕ) (origins ends : List ℕ) where
+  abbrev pub links-left : (l : ℕ) → Verdict
+  links-left l = linksVerdict nodes l (drop l origins) (drop l ends)
 
-  pub links-done : length origins ≤ l → linksVerdict nodes l (drop l origins) (drop l ends) ≡ fine
+  module _ (l : ℕ) (h : l < length origins) (k : l < length ends) where
+    abbrev link-here : Verdict
+    link-here = linkVerdict nodes l (getD origins l 0) (getD ends l 0)
+
+    links-turn : links-left l ≡ (link-here then links-left (l + 1))
+    unfolding linksVerdict
+    links-turn = rw (from-place origins l, from-place ends l, add-one l)
+
+    pub links-refused : {w : Told} {r : Refusal} → w ≡ Refused r → verdictOf w ≡ link-here → links-left l ≡ refusalOf r
+    links-refused d v = links-turn ∙ after-refusal d v _
+
+    pub links-on : {w : Told} → w ≡ Fine → verdictOf w ≡ link-here → links-left l ≡ links-left (l + 1)
+    links-on d v = links-turn ∙ after-fine d v _
+
+  pub links-done : (l : ℕ) → length origins ≤ l → links-left l ≡ fine
   unfolding linksVerdict
-  links-done h = rw (drop-of-length-le origins h)
+  links-done l h = rw (drop-of-length-le origins h)
 
 -- the starts from the k-th on
 module _ (starts : List ℕ) (k : ℕ) where
@@ -203,9 +226,11 @@ module _ (j : Job) where
 
   pub job-within : job-fits ≡ true → (length (j .network .origins) ≤ linksMost) × (length (j .sources) ≤ packetsMost)
   job-within e =
-      let p = and-left _ (leb (length (j .hops)) hopsMost) e in
-      let l = and-left _ (leb (length (j .sources)) packetsMost) p in
-      (leb-true _ linksMost (and-right (leb 1 (j .network .nodes) && leb (j .network .nodes) nodesMost) _ l), leb-true _ packetsMost (and-right (leb 1 (j .network .nodes) && leb (j .network .nodes) nodesMost && leb (length (j .network .origins)) linksMost) _ p))
+      let nodes = leb 1 (j .network .nodes) && leb (j .network .nodes) nodesMost in
+      let links = leb (length (j .network .origins)) linksMost in
+      let packets = leb (length (j .sources)) packetsMost in
+      let p = and-left (nodes && links && packets) (leb (length (j .hops)) hopsMost) e in
+      (leb-true _ linksMost (and-right nodes links (and-left (nodes && links) packets p)), leb-true _ packetsMost (and-right (nodes && links) packets p))
 
   abbrev pub links-then-packets : Verdict
   links-then-packets = linksVerdict (j .network .nodes) 0 (j .network .origins) (j .network .ends) then packetsVerdict (j .network) 0 (j .sources) (paths j)

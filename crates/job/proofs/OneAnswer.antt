@@ -1,12 +1,10 @@
 -- What the code answers is fixed by what the rules say of it: no two refusals share number and place, so a contract of the
 -- form `verdictOf r ≡ ..` has one outcome.
 use mathlib.Core.Path.{_≡_, refl, sym, ap, _∙_}
-use mathlib.Core.Option.{Option, none, some}
 use Prim.Native.Nat.{ℕ}
 use lib.Dec.{eqb}
 use Rattle.counting.specs.Count.{pick}
-use Rattle.counting.proofs.Places.{some-same}
-use Rattle.rules.specs.Outcome.{Outcome, is, refused, Verdict as Ruled}
+use Rattle.rules.specs.Outcome.{is, refused, Verdict as Ruled}
 use Rattle.job.specs.declared.Refusal.{Refusal}
 use Rattle.job.specs.declared.Refusal.the-variants.{TextTooLong, BadForm, Size, NoNode, SelfLink, NoLink, NotLeaving, Revisited, Disagree, ShortRoom, StartCount, LateStart, NoLead}
 use Rattle.job.specs.declared.Verdict.{Verdict}

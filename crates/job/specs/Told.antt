@@ -1,5 +1,4 @@
 -- What the answers of the code mean: document 01's number and place for each refusal.
-use Prim.Native.Nat.{ℕ}
 use Rattle.rules.specs.Outcome.{Outcome, is, refused, Verdict as Ruled}
 use Rattle.job.specs.declared.Refusal.{Refusal}
 use Rattle.job.specs.declared.Refusal.the-variants.{TextTooLong, BadForm, Size, NoNode, SelfLink, NoLink, NotLeaving, Revisited, Disagree, ShortRoom, StartCount, LateStart, NoLead}

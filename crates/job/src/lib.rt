@@ -21,10 +21,11 @@ pub struct Job {
 }
 
 impl Job {
+    // nodes are 1 to this
     pub const NODES: usize = 1024;
-
+    // links from node to node
     pub const LINKS: usize = 4096;
-
+    // packets, each with its path
     pub const PACKETS: usize = 1024;
     // hops of one path
     pub const PATH: usize = 255;

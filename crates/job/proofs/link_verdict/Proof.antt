@@ -1,5 +1,4 @@
 -- `job::link_verdict` meets its contract: each exit is the definition with the tests that led there.
-use mathlib.Core.Path.{refl}
 use native.Mathlib.Omega.{arith}
 use borrow.Author.Tests.{le-ltb, lt-ltb, eq-eqb, ne-eqb}
 use Rattle.rules.specs.Tables.{linkVerdict}

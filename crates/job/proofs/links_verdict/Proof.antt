@@ -3,15 +3,14 @@ use mathlib.Core.Path.{_≡_, refl, sym, _∙_}
 use Prim.Native.Nat.{_-_, _≤_}
 use native.Mathlib.Omega.{arith}
 use borrow.Author.Needs.{needs}
-use borrow.Author.Tests.{le-leb, lt-leb, eq-eqb, ne-eqb}
-use lib.ListN.{length, drop}
+use lib.ListN.{length}
 use Rattle.rules.specs.Tables.{linksVerdict}
-use Rattle.job.proofs.Laws.{links-turn, links-done, after-refusal, after-fine}
+use Rattle.job.proofs.Laws.{links-left, links-refused, links-on, links-done}
 use Rattle.job.proofs.links_verdict.Statement.{statement}
 use Rattle.job.proofs.links_verdict.Tie as tie
 
 abbrev Inv-loop : tie.InvT-loop
-Inv-loop nodes origins ends l₀ l = (l ≤ length origins) × (linksVerdict nodes 0 origins ends ≡ linksVerdict nodes l (drop l origins) (drop l ends))
+Inv-loop nodes origins ends l₀ l = (l ≤ length origins) × (linksVerdict nodes 0 origins ends ≡ links-left nodes origins ends l)
 
 abbrev μ-loop : tie.MeasureT-loop
 μ-loop nodes origins ends l₀ l = length origins - l
@@ -41,7 +40,9 @@ enum-known-verdict : tie.Need-enum-known-verdict Inv-loop μ-loop
 enum-known-verdict c = search needs
 
 returns : tie.Need-returns Inv-loop μ-loop
-returns c = sym (c .before .before .before .before .before .before .before .loop .inv .1 ∙ links-turn _ _ _ _ (c .before .before .before .before .before .before .loop-test .taken) (omega arith) ∙ after-refusal (c .before .verdict .given .1) (c .before .before .before .link-verdict .ensures) _)
+returns c =
+    let t = c .before .before .before .before .before .before in
+    sym (t .before .loop .inv .1 ∙ links-refused _ _ _ _ (t .loop-test .taken) (omega arith) (c .before .verdict .given .1) (c .before .before .before .link-verdict .ensures))
 
 enum-told : tie.Need-enum-told Inv-loop μ-loop
 enum-told c = search needs
@@ -53,7 +54,9 @@ loop-less : tie.Need-loop-less Inv-loop μ-loop
 loop-less c = search needs
 
 loop-again : tie.Need-loop-again Inv-loop μ-loop
-loop-again c = (omega arith, c .before .before .before .before .before .before .loop .inv .1 ∙ links-turn _ _ _ _ (c .before .before .before .before .before .loop-test .taken) (omega arith) ∙ after-fine (c .enum-told .given .1) (c .before .before .link-verdict .ensures) _)
+loop-again c =
+    let t = c .before .before .before .before .before in
+    (omega arith, t .before .loop .inv .1 ∙ links-on _ _ _ _ (t .loop-test .taken) (omega arith) (c .enum-told .given .1) (c .before .before .link-verdict .ensures))
 
 returns-2 : tie.Need-returns-2 Inv-loop μ-loop
 returns-2 c = sym (c .before .loop .inv .1 ∙ links-done _ _ _ _ (c .loop-test .left))

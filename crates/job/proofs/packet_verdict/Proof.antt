@@ -1,9 +1,6 @@
 -- `job::packet_verdict` meets its contract: each exit is the definition with the tests that led there.
-use native.Mathlib.Omega.{arith}
 use borrow.Author.Needs.{needs}
 use borrow.Author.Tests.{le-leb, lt-leb, le-ltb, lt-ltb}
-use lib.ListN.{length}
-use denote.Ref.{now}
 use Rattle.rules.specs.Sizes.{pathMost}
 use Rattle.rules.specs.Tables.{packetVerdict}
 use Rattle.job.proofs.packet_verdict.Statement.{statement}

@@ -9,7 +9,7 @@ use denote.Ref.{now}
 use Rattle.rules.specs.Network.{paths}
 use Rattle.rules.specs.Tables.{packetsVerdict, stopsAgree}
 use Rattle.job.specs.Lists.{networkOf, jobOf}
-use Rattle.job.proofs.Laws.{after-refusal, after-fine, stops-part, packets-left, packets-turn, packets-done}
+use Rattle.job.proofs.Laws.{stops-part, packets-left, packets-refused, packets-on, packets-done}
 use Rattle.job.proofs.packets_verdict.Statement.{statement}
 use Rattle.job.proofs.packets_verdict.Tie as tie
 
@@ -35,15 +35,22 @@ shared-slice-read-wide c = search needs
 wide-requires : tie.Need-wide-requires Inv-loop μ-loop
 wide-requires c κs = search needs
 
+abbrev W : Type 0
+W = tie.After-wide Inv-loop μ-loop
+
+abbrev at : W → tie.At-loop Inv-loop μ-loop
+at w = w .before .before .before
+
+abbrev lent : W → tie.Start Inv-loop μ-loop
+lent w = at w .before .before .before .before .before .before
+
 -- the path that is lent lies within the hops
-part : (w : tie.After-wide Inv-loop μ-loop)
-    → let l = w .before .before .before in
-    let a = l .before .before .before .before .before .before .args in
-    (l .loop .from ≤ w .wide .result) × (w .wide .result ≤ length (now (a .hops))) × (stopsAgree (w .wide .result) (drop (l .loop .k + 1) (now (a .stops))) (length (now (a .hops))) ≡ true)
+part : (w : W)
+    → let a = lent w .args in
+    let to = w .wide .result in
+    (at w .loop .from ≤ to) × (to ≤ length (now (a .hops))) × (stopsAgree to (drop (at w .loop .k + 1) (now (a .stops))) (length (now (a .hops))) ≡ true)
 part w =
-    let l = w .before .before .before in
-    let a = l .before .before .before .before .before .before .args in
-    stops-part (now (a .hops)) _ (now (a .stops)) (l .loop .k) (w .wide .ensures) (omega arith) (l .loop .inv .1)
+    let a = lent w .args in stops-part (now (a .hops)) _ (now (a .stops)) (at w .loop .k) (w .wide .ensures) (omega arith) (at w .loop .inv .1)
 
 mul-packet-verdict : tie.Need-mul-packet-verdict Inv-loop μ-loop
 mul-packet-verdict c = omega (arith, part c)
@@ -73,7 +80,9 @@ enum-known-verdict : tie.Need-enum-known-verdict Inv-loop μ-loop
 enum-known-verdict c = search needs
 
 returns : tie.Need-returns Inv-loop μ-loop
-returns c = sym (c .before .before .before .before .before .before .before .before .before .loop .inv .2 ∙ packets-turn _ _ _ _ _ _ (c .before .before .before .before .before .before .wide .ensures) (c .before .before .before .before .before .before .before .before .loop-test .taken) (omega arith) ∙ after-refusal (c .before .verdict .given .1) (c .before .before .before .packet-verdict .ensures) _)
+returns c =
+    let w = c .before .before .before .before .before .before in
+    sym (at w .loop .inv .2 ∙ packets-refused _ _ _ _ _ _ (w .wide .ensures) (w .before .before .loop-test .taken) (omega arith) (c .before .verdict .given .1) (c .before .before .before .packet-verdict .ensures))
 
 enum-told : tie.Need-enum-told Inv-loop μ-loop
 enum-told c = search needs
@@ -85,7 +94,12 @@ loop-less : tie.Need-loop-less Inv-loop μ-loop
 loop-less c = search needs
 
 loop-again : tie.Need-loop-again Inv-loop μ-loop
-loop-again c = (omega arith, part (c .before .before .before .before .before) .2, c .before .before .before .before .before .before .before .before .loop .inv .2 ∙ packets-turn _ _ _ _ _ _ (c .before .before .before .before .before .wide .ensures) (c .before .before .before .before .before .before .before .loop-test .taken) (omega arith) ∙ after-fine (c .enum-told .given .1) (c .before .before .packet-verdict .ensures) _)
+loop-again c =
+    let w = c .before .before .before .before .before in (
+      omega arith,
+      part w .2,
+      at w .loop .inv .2 ∙ packets-on _ _ _ _ _ _ (w .wide .ensures) (w .before .before .loop-test .taken) (omega arith) (c .enum-told .given .1) (c .before .before .packet-verdict .ensures),
+    )
 
 returns-2 : tie.Need-returns-2 Inv-loop μ-loop
 returns-2 c = sym (c .before .loop .inv .2 ∙ packets-done _ _ _ _ _ _ (c .loop-test .left))

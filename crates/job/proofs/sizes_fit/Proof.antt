@@ -1,20 +1,18 @@
 -- `job::sizes_fit` meets its contract: each way through the chain of tests is its value.
-use mathlib.Core.Path.{_≡_, refl, sym, _∙_}
-use Prim.Native.Nat.{_-_, _≤_}
-use native.Mathlib.Omega.{arith}
-use borrow.Author.Needs.{needs}
-use borrow.Author.Tests.{le-leb, lt-leb, eq-eqb, ne-eqb}
-use lib.Dec.{leb}
+use mathlib.Core.Path.{_≡_}
 use mathlib.Core.Bool.{_&&_}
 use mathlib.Core.Logic.{⊎-elim}
-use Rattle.rules.specs.Sizes.{nodesMost, linksMost, packetsMost}
 use borrow.Author.Needs.{needs}
+use borrow.Author.Tests.{le-leb, lt-leb}
+use lib.Dec.{leb}
+use Rattle.rules.specs.Sizes.{nodesMost, linksMost, packetsMost}
 use Rattle.job.proofs.sizes_fit.Statement.{statement}
 use Rattle.job.proofs.sizes_fit.Tie as tie
 
 wide-requires : tie.Need-wide-requires
 wide-requires c κs = search needs
 
+-- where the ways meet after each `&&`, the flag is what was tested so far
 few-nodes : (c : tie.Joined1) → let a = c .before .args in c .if1 .if2 ≡ (leb 1 (a .nodes) && leb (a .nodes) nodesMost)
 few-nodes c = ⊎-elim (λ w. rw (le-leb 1 _ (w .0 .taken), w .2, w .1 .ensures)) (λ w. rw (w .1, lt-leb 1 _ (w .0 .left))) (c .if1 .came)
 

@@ -3,7 +3,6 @@ use mathlib.Core.Path.{_≡_, refl, sym, _∙_}
 use Prim.Native.Nat.{_-_, _≤_}
 use native.Mathlib.Omega.{arith}
 use borrow.Author.Needs.{needs}
-use borrow.Author.Tests.{le-leb, lt-leb, eq-eqb, ne-eqb}
 use lib.ListN.{length, drop}
 use Rattle.rules.specs.Tables.{stopsAgree}
 use Rattle.job.proofs.Laws.{stops-fall, stops-on, stops-done}
@@ -29,7 +28,9 @@ wide-requires : tie.Need-wide-requires Inv-loop μ-loop
 wide-requires c κs = search needs
 
 returns : tie.Need-returns Inv-loop μ-loop
-returns c = sym (c .before .before .before .before .loop .inv .1 ∙ stops-fall _ _ _ _ (c .before .wide .ensures) (c .before .before .before .loop-test .taken) (c .if1 .taken))
+returns c =
+    let w = c .before in
+    sym (w .before .before .before .loop .inv .1 ∙ stops-fall _ _ _ _ (w .wide .ensures) (w .before .before .loop-test .taken) (c .if1 .taken))
 
 add-k : tie.Need-add-k Inv-loop μ-loop
 add-k c = search needs
@@ -38,7 +39,9 @@ loop-less : tie.Need-loop-less Inv-loop μ-loop
 loop-less c = search needs
 
 loop-again : tie.Need-loop-again Inv-loop μ-loop
-loop-again c = (omega arith, c .before .before .before .before .loop .inv .1 ∙ stops-on _ _ _ _ (c .before .wide .ensures) (c .before .before .before .loop-test .taken) (c .if1 .left))
+loop-again c =
+    let w = c .before in
+    (omega arith, w .before .before .before .loop .inv .1 ∙ stops-on _ _ _ _ (w .wide .ensures) (w .before .before .loop-test .taken) (c .if1 .left))
 
 returns-2 : tie.Need-returns-2 Inv-loop μ-loop
 returns-2 c = sym (c .before .loop .inv .1 ∙ stops-done _ _ _ _ (c .loop-test .left))

@@ -1,12 +1,11 @@
 -- `job::visited` meets its contract: after the source, the node is sought among those that the links that are left enter.
 use mathlib.Core.Path.{_≡_, refl, sym, _∙_}
-use Prim.Native.Nat.{_-_, _≤_}
+use Prim.Native.Nat.{_-_, _≤_, _<_}
 use native.Mathlib.Omega.{arith}
 use borrow.Author.Needs.{needs}
-use borrow.Author.Tests.{le-leb, lt-leb, eq-eqb, ne-eqb}
-use lib.ListN.{length, drop}
-use Rattle.job.specs.Lists.{entered}
-use mathlib.Core.Bool.{_||_}
+use borrow.Author.Tests.{eq-eqb, ne-eqb}
+use denote.Ref.{now}
+use lib.ListN.{length, getD}
 use Rattle.job.proofs.Laws.{seen-from, seen-here, seen-on, seen-none}
 use Rattle.job.proofs.visited.Statement.{statement}
 use Rattle.job.proofs.visited.Tie as tie
@@ -32,14 +31,22 @@ shared-slice-read-wide c = search needs
 wide-requires : tie.Need-wide-requires Inv-loop μ-loop
 wide-requires c κs = search needs
 
+-- the link that is read is one of those that are lent
+below : (w : tie.After-wide Inv-loop μ-loop) → let l = w .before .before .before in getD (now (l .before .before .before .before .args .path)) (l .loop .q) 0 < length (now (l .before .before .before .before .args .ends))
+below w = let l = w .before .before .before in l .before .before .before .before .pre .1 (l .loop .q) (w .before .before .loop-test .taken)
+
 mul-if2 : tie.Need-mul-if2 Inv-loop μ-loop
-mul-if2 c = let a = c .before .before .before .before .before .before .before in omega (arith, a .pre .1 (c .before .before .before .loop .q) (c .before .before .loop-test .taken))
+mul-if2 c = omega (arith, below c)
 
 shared-slice-read-if2 : tie.Need-shared-slice-read-if2 Inv-loop μ-loop
-shared-slice-read-if2 c = let a = c .before .before .before .before .before .before .before .before in omega (arith, a .pre .1 (c .before .before .before .before .loop .q) (c .before .before .before .loop-test .taken))
+shared-slice-read-if2 c = omega (arith, below (c .before))
 
 returns-2 : tie.Need-returns-2 Inv-loop μ-loop
-returns-2 c = rw (ne-eqb _ _ (c .before .before .before .before .before .before .if1 .left)) (sym (c .before .before .before .before .before .loop .inv .1 ∙ seen-here _ _ _ _ (c .before .before .before .before .before .before .before .before .before .pre .0) _ (c .before .before .wide .ensures) (c .before .before .before .before .loop-test .taken) (c .if2 .taken)))
+returns-2 c =
+    let w = c .before .before in
+    let l = w .before .before .before in
+    rw (ne-eqb _ _ (l .before .if1 .left))
+    (sym (l .loop .inv .1 ∙ seen-here _ _ _ _ (l .before .before .before .before .pre .0) _ (w .wide .ensures) (w .before .before .loop-test .taken) (c .if2 .taken)))
 
 add-q : tie.Need-add-q Inv-loop μ-loop
 add-q c = search needs
@@ -48,10 +55,15 @@ loop-less : tie.Need-loop-less Inv-loop μ-loop
 loop-less c = search needs
 
 loop-again : tie.Need-loop-again Inv-loop μ-loop
-loop-again c = (omega arith, c .before .before .before .before .before .loop .inv .1 ∙ seen-on _ _ _ _ (c .before .before .before .before .before .before .before .before .before .pre .0) _ (c .before .before .wide .ensures) (c .before .before .before .before .loop-test .taken) (c .if2 .left))
+loop-again c =
+    let w = c .before .before in
+    let l = w .before .before .before in
+    (omega arith, l .loop .inv .1 ∙ seen-on _ _ _ _ (l .before .before .before .before .pre .0) _ (w .wide .ensures) (w .before .before .loop-test .taken) (c .if2 .left))
 
 returns-3 : tie.Need-returns-3 Inv-loop μ-loop
-returns-3 c = rw (ne-eqb _ _ (c .before .before .if1 .left)) (sym (c .before .loop .inv .1 ∙ seen-none _ _ _ _ (c .before .before .before .before .before .pre .0) _ (c .loop-test .left)))
+returns-3 c =
+    let l = c .before in
+    rw (ne-eqb _ _ (l .before .if1 .left)) (sym (l .loop .inv .1 ∙ seen-none _ _ _ _ (l .before .before .before .before .pre .0) _ (c .loop-test .left)))
 
 pub visited-spec : {M : Type 1} → statement M
 visited-spec =

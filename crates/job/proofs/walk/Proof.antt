@@ -13,7 +13,10 @@ use Rattle.job.proofs.walk.Statement.{statement}
 use Rattle.job.proofs.walk.Tie as tie
 
 abbrev Inv-loop : tie.InvT-loop
-Inv-loop origins ends path source place reached₀ p₀ reached p = (p ≤ length path) × ((q : ℕ) → q < p → getD path q 0 < length ends) × ((n : ℕ) → walk (networkOf n origins ends) place source (source ∷ []) path ≡ walk-left n origins ends path source place reached p)
+Inv-loop origins ends path source place reached₀ p₀ reached p =
+    (p ≤ length path)
+    × ((q : ℕ) → q < p → getD path q 0 < length ends)
+    × ((n : ℕ) → walk (networkOf n origins ends) place source (source ∷ []) path ≡ walk-left n origins ends path source place reached p)
 
 abbrev μ-loop : tie.MeasureT-loop
 μ-loop origins ends path source place reached₀ p₀ reached p = length path - p
@@ -31,10 +34,14 @@ wide-requires : tie.Need-wide-requires Inv-loop μ-loop
 wide-requires c κs = search needs
 
 returns : tie.Need-returns Inv-loop μ-loop
-returns c = λ n. sym (c .before .before .before .before .loop .inv .2 n ∙ walk-no-origin _ _ _ _ _ _ _ _ (c .before .wide .ensures) (c .before .before .before .loop-test .taken) (c .if1 .taken))
+returns c =
+    let w = c .before in
+    λ n. sym (w .before .before .before .loop .inv .2 n ∙ walk-no-origin _ _ _ _ _ _ _ _ (w .wide .ensures) (w .before .before .loop-test .taken) (c .if1 .taken))
 
 returns-2 : tie.Need-returns-2 Inv-loop μ-loop
-returns-2 c = λ n. sym (c .before .before .before .before .before .loop .inv .2 n ∙ walk-no-end _ _ _ _ _ _ _ _ (c .before .before .wide .ensures) (c .before .before .before .before .loop-test .taken) (c .before .if1 .left) (c .if2 .taken))
+returns-2 c =
+    let w = c .before .before in
+    λ n. sym (w .before .before .before .loop .inv .2 n ∙ walk-no-end _ _ _ _ _ _ _ _ (w .wide .ensures) (w .before .before .loop-test .taken) (c .before .if1 .left) (c .if2 .taken))
 
 mul-if3 : tie.Need-mul-if3 Inv-loop μ-loop
 mul-if3 c = search needs
@@ -43,7 +50,10 @@ shared-slice-read-if3 : tie.Need-shared-slice-read-if3 Inv-loop μ-loop
 shared-slice-read-if3 c = search needs
 
 returns-3 : tie.Need-returns-3 Inv-loop μ-loop
-returns-3 c = λ n. sym (c .before .before .before .before .before .before .before .loop .inv .2 n ∙ walk-not-leaving _ _ _ _ _ _ _ _ (c .before .before .before .before .wide .ensures) (c .before .before .before .before .before .before .loop-test .taken) (c .before .before .before .if1 .left) (c .before .before .if2 .left) (c .if3 .taken))
+returns-3 c =
+    let d = c .before .before in
+    let w = d .before .before in
+    λ n. sym (w .before .before .before .loop .inv .2 n ∙ walk-not-leaving _ _ _ _ _ _ _ _ (w .wide .ensures) (w .before .before .loop-test .taken) (d .before .if1 .left) (d .if2 .left) (c .if3 .taken))
 
 mul-node : tie.Need-mul-node Inv-loop μ-loop
 mul-node c = search needs
@@ -52,10 +62,14 @@ shared-slice-read-node : tie.Need-shared-slice-read-node Inv-loop μ-loop
 shared-slice-read-node c = search needs
 
 visited-requires : tie.Need-visited-requires Inv-loop μ-loop
-visited-requires c κs = (c .before .before .before .before .before .before .before .before .loop .inv .0, c .before .before .before .before .before .before .before .before .loop .inv .1)
+visited-requires c κs = let l = c .before .before .before .before .before .before .before .before in (l .loop .inv .0, l .loop .inv .1)
 
 returns-4 : tie.Need-returns-4 Inv-loop μ-loop
-returns-4 c = λ n. sym (c .before .before .before .before .before .before .before .before .before .before .loop .inv .2 n ∙ walk-revisited _ _ _ _ _ _ _ _ (c .before .before .before .before .before .before .before .wide .ensures) (c .before .before .before .before .before .before .before .before .before .loop-test .taken) (c .before .before .before .before .before .before .if1 .left) (c .before .before .before .before .before .if2 .left) (c .before .before .before .if3 .left) (sym (c .before .visited .ensures) ∙ c .if4 .taken))
+returns-4 c =
+    let h = c .before .before .before in
+    let d = h .before .before in
+    let w = d .before .before in
+    λ n. sym (w .before .before .before .loop .inv .2 n ∙ walk-revisited _ _ _ _ _ _ _ _ (w .wide .ensures) (w .before .before .loop-test .taken) (d .before .if1 .left) (d .if2 .left) (h .if3 .left) (c .before .visited .ensures) (c .if4 .taken))
 
 add-p : tie.Need-add-p Inv-loop μ-loop
 add-p c = search needs
@@ -64,7 +78,15 @@ loop-less : tie.Need-loop-less Inv-loop μ-loop
 loop-less c = search needs
 
 loop-again : tie.Need-loop-again Inv-loop μ-loop
-loop-again c = (omega arith, below-more _ _ (c .before .before .before .before .before .before .before .before .before .before .loop .inv .1) (rw (← c .before .before .before .before .before .before .before .wide .ensures) (c .before .before .before .before .before .if2 .left)), λ n. c .before .before .before .before .before .before .before .before .before .before .loop .inv .2 n ∙ walk-on _ _ _ _ _ _ _ _ (c .before .before .before .before .before .before .before .wide .ensures) (c .before .before .before .before .before .before .before .before .before .loop-test .taken) (c .before .before .before .before .before .before .if1 .left) (c .before .before .before .before .before .if2 .left) (c .before .before .before .if3 .left) (sym (c .before .visited .ensures) ∙ c .if4 .left))
+loop-again c =
+    let h = c .before .before .before in
+    let d = h .before .before in
+    let w = d .before .before in
+    let l = w .before .before .before in (
+      omega arith,
+      below-more _ _ (l .loop .inv .1) (rw (← w .wide .ensures) (d .if2 .left)),
+      λ n. l .loop .inv .2 n ∙ walk-on _ _ _ _ _ _ _ _ (w .wide .ensures) (w .before .before .loop-test .taken) (d .before .if1 .left) (d .if2 .left) (h .if3 .left) (c .before .visited .ensures) (c .if4 .left),
+    )
 
 returns-5 : tie.Need-returns-5 Inv-loop μ-loop
 returns-5 c = λ n. sym (c .before .loop .inv .2 n ∙ walk-done _ _ _ _ _ _ _ _ (c .loop-test .left))
