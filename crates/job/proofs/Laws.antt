@@ -30,22 +30,7 @@ use Rattle.job.specs.Told.{refusalOf, verdictOf}
 
 -- a check that refuses is the whole answer; after one that does not, what follows is
 pub after-refusal : {A : Type 0} {w : Told} {r : Refusal} {v : Verdict} → w ≡ Refused r → verdictOf w ≡ v → (o : Outcome A) → (v then o) ≡ refusalOf r
-after-refusal {A} {r = r} d e o = rw (← e, d) (stays r)
-  where
-    stays : (r : Refusal) → (refusalOf r then o) ≡ refusalOf r
-    stays TextTooLong = refl
-    stays (BadForm p) = refl
-    stays (Size p) = refl
-    stays (NoNode p) = refl
-    stays (SelfLink p) = refl
-    stays (NoLink p) = refl
-    stays (NotLeaving p) = refl
-    stays (Revisited p) = refl
-    stays Disagree = refl
-    stays ShortRoom = refl
-    stays StartCount = refl
-    stays (LateStart p) = refl
-    stays NoLead = refl
+after-refusal d e o = rw (← e, d)
 
 pub after-fine : {A : Type 0} {w : Told} {v : Verdict} → w ≡ Fine → verdictOf w ≡ v → (o : Outcome A) → (v then o) ≡ o
 after-fine d e o = rw (← e, d)

@@ -1,9 +1,9 @@
 -- Document 01, "Refusals and their order", what follows on tables; and the one answer from bytes.
-use mathlib.Core.List.{List, [], _∷_}
+use mathlib.Core.List.{List, [], _∷_, _++_}
 use mathlib.Core.Option.{Option}
 use Prim.Native.Nat.{ℕ, suc}
 use lib.Dec.{eqb, leb}
-use lib.ListN.{length}
+use lib.ListN.{length, drop}
 use lib.IntN.{ℤ}
 use Rattle.rules.specs.Sizes.{startMost}
 use Rattle.rules.specs.Network.{Job, paths}
@@ -26,6 +26,15 @@ startsVerdict k (s ∷ ss) = must (leb s startMost) 12 k then startsVerdict (suc
 unfoldable pub startedVerdict : Job → List ℕ → Verdict
 startedVerdict j starts = tables j then must (eqb (length starts) (length (j .sources))) 11 0 then startsVerdict 0 starts
 
+-- the answer, where the room holds it; 10 comes after every other refusal
+unfoldable pub inRoom : List ℕ → ℕ → Outcome (List ℕ)
+inRoom answer room = must (leb (length answer) room) 10 0 then is answer
+
+-- a list lent for an answer, afterwards: the answer stands in its first places, and a refusal leaves it as it was
+unfoldable pub lentAfter : Outcome (List ℕ) → List ℕ → List ℕ
+lentAfter (is answer) lent = answer ++ drop (length answer) lent
+lentAfter (refused number place) lent = lent
+
 -- the planner, with room for so many starts
 unfoldable pub planned : Job → ℕ → Outcome (List ℕ)
 planned j room = tables j then must (leb (length (j .sources)) room) 10 0 then is (greedy j)
@@ -40,8 +49,7 @@ led j starts a b link = startedVerdict j starts then lead starts (paths j) a b l
 
 -- the text writer, with room for so many bytes
 unfoldable pub written : Job → List ℕ → ℕ → Outcome (List ℕ)
-written j starts room =
-    startedVerdict j starts then must (leb (length (planText j starts)) room) 10 0 then is (planText j starts)
+written j starts room = startedVerdict j starts then inRoom (planText j starts) room
 
 -- from a job's bytes: its plan's bytes, or the refusal
 unfoldable pub answer : List ℕ → Outcome (List ℕ)

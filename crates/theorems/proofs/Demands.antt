@@ -23,7 +23,7 @@ use Rattle.theorems.proofs.Bounds.{Simple, start-le-meetings-with, end-
 
 module _ (j : Job) (job : IsJob j) where
   -- every packet of the job is on a path
-  packets-simple : (p : List ℕ) → List·Memᴰ p (paths j) → Simple (linkCount j) p
+  pub packets-simple : (p : List ℕ) → List·Memᴰ p (paths j) → Simple (linkCount j) p
   packets-simple p m =
       let path = job-path j job m .1 .on-path in
       record { below = λ l i. path-links-exist path i; once = path-once path }
