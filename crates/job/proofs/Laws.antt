@@ -22,7 +22,6 @@ use Rattle.rules.specs.Outcome.{Outcome, Verdict, fine, refused, must, _then_}
 use Rattle.rules.specs.Tables.{linkVerdict, linksVerdict, walk, packetVerdict, packetsVerdict, stopsAgree, tables}
 use Rattle.rules.specs.Answers.{startsVerdict}
 use Rattle.job.specs.declared.Refusal.{Refusal}
-use Rattle.job.specs.declared.Refusal.the-variants.{TextTooLong, BadForm, Size, NoNode, SelfLink, NoLink, NotLeaving, Revisited, Disagree, ShortRoom, StartCount, LateStart, NoLead}
 use Rattle.job.specs.declared.Verdict.{Verdict as Told}
 use Rattle.job.specs.declared.Verdict.the-variants.{Fine, Refused}
 use Rattle.job.specs.Lists.{networkOf, entered, sizesFit}

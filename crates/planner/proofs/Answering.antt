@@ -1,0 +1,44 @@
+-- What the ways out of check and lead answer, after the verdict on the job with its starts.
+use mathlib.Core.Path.{_≡_, sym, ap, _∙_}
+use mathlib.Core.List.{List, []}
+use mathlib.Core.Option.{Option}
+use Prim.Native.Nat.{ℕ}
+use borrow.Author.Tests.{eq-eqb, ne-eqb}
+use Rattle.rules.specs.Network.{Job, pathsFrom, paths}
+use Rattle.rules.specs.Outcome.{is, refused}
+use Rattle.rules.specs.Claims.{claims}
+use Rattle.rules.specs.Check.{clashAfter}
+use Rattle.rules.specs.Lead.{leadOf, entryAt, lead}
+use Rattle.rules.specs.Answers.{startedVerdict, checked, led}
+use Rattle.theorems.proofs.OnPaths.{onPaths}
+use Rattle.theorems.proofs.Started.{IsStarted, started-fine-iff}
+use Rattle.job.specs.declared.Refusal.{Refusal}
+use Rattle.job.specs.declared.Verdict.{Verdict}
+use Rattle.job.specs.declared.Verdict.the-variants.{Fine, Refused}
+use Rattle.job.specs.Told.{refusalOf, verdictOf}
+use Rattle.job.proofs.Laws.{after-refusal, after-fine}
+
+module _ (j : Job) (starts : List ℕ) (told : Verdict) (same : verdictOf told ≡ startedVerdict j starts) where
+  pub fine-started : told ≡ Fine → IsStarted j starts
+  fine-started e = started-fine-iff j starts .0 (sym same ∙ ap verdictOf e)
+
+  pub checked-refused : (r : Refusal) → told ≡ Refused r → refusalOf r ≡ checked j starts
+  unfolding checked
+  checked-refused r e = sym (after-refusal e same _)
+
+  pub checked-found : told ≡ Fine → is (clashAfter [] (onPaths starts (pathsFrom 0 (j .stops) (j .hops)))) ≡ checked j starts
+  unfolding checked claims paths
+  checked-found e = sym (after-fine e same _)
+
+  module _ (a b link : ℕ) where
+    pub led-refused : (r : Refusal) → told ≡ Refused r → refusalOf r ≡ led j starts a b link
+    unfolding led
+    led-refused r e = sym (after-refusal e same _)
+
+    pub led-itself : told ≡ Fine → a ≡ b → refused 13 0 ≡ led j starts a b link
+    unfolding led lead
+    led-itself e p = sym (after-fine e same _ ∙ rw (eq-eqb a b p))
+
+    pub led-apart : told ≡ Fine → (a ≡ b → ⊥) → (x y : Option ℕ) → x ≡ entryAt starts (pathsFrom 0 (j .stops) (j .hops)) link a → y ≡ entryAt starts (pathsFrom 0 (j .stops) (j .hops)) link b → leadOf x y ≡ led j starts a b link
+    unfolding led lead paths
+    led-apart e n x y p q = sym (after-fine e same _ ∙ rw (ne-eqb a b n, ← p, ← q))

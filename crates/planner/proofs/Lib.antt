@@ -1,0 +1,9 @@
+pub mod Parts
+pub mod Entering
+pub mod Taking
+pub mod Clashing
+pub mod Filling
+pub mod Leading
+pub mod Planning
+pub mod Apart
+pub mod Answering

@@ -1,0 +1,32 @@
+-- `planner::check` meets its contract: the refusals in their order, then the first clash.
+use mathlib.Core.Path.{sym, _∙_}
+use native.Mathlib.Omega.{arith}
+use borrow.Author.Needs.{needs}
+use Rattle.planner.proofs.Planning.{job-listed}
+use Rattle.planner.proofs.Answering.{fine-started, checked-refused, checked-found}
+use Rattle.planner.proofs.check.Statement.{statement}
+use Rattle.planner.proofs.check.Tie as tie
+
+started-requires : tie.Need-started-requires
+started-requires c κs = search needs
+
+enum-known-verdict : tie.Need-enum-known-verdict
+enum-known-verdict c = search needs
+
+returns : tie.Need-returns
+returns c = checked-refused _ _ _ (c .before .before .before .started .ensures) _ (c .before .verdict .given .1)
+
+enum-told : tie.Need-enum-told
+enum-told c = search needs
+
+first-clash-requires : tie.Need-first-clash-requires
+first-clash-requires c κs =
+    let s = fine-started _ _ _ (c .before .before .started .ensures) (c .enum-told .given .1) in
+    let job = s .job in
+    (job-listed _ job, s .count ∙ sym (job .stops-count), omega (arith, job .stops-count, job .packets-most))
+
+returns-2 : tie.Need-returns-2
+returns-2 c = c .first-clash .ensures ∙ checked-found _ _ _ (c .before .before .before .started .ensures) (c .before .enum-told .given .1)
+
+pub check-spec : {M : Type 1} → statement M
+check-spec = tie.close (tie.spec started-requires enum-known-verdict returns enum-told first-clash-requires returns-2)

@@ -1,0 +1,45 @@
+-- What the planner's answers mean, in the terms of the rules.
+use mathlib.Core.Path.{_≡_}
+use mathlib.Core.List.{List}
+use mathlib.Core.Option.{Option, none, some}
+use Prim.Native.Nat.{ℕ, _<_}
+use lib.IntN.{ℤ}
+use Rattle.rules.specs.Outcome.{Outcome, is, fine, onward}
+use Rattle.rules.specs.Check.{Clash as Shown}
+use Rattle.rules.specs.Answers.{lentAfter}
+use Rattle.job.specs.declared.Verdict.{Verdict}
+use Rattle.job.specs.Told.{refusalOf, verdictOf}
+use Rattle.planner.specs.declared.Entered.{Entered}
+use Rattle.planner.specs.declared.Entered.the-variants.{At, Nowhere}
+use Rattle.planner.specs.declared.Checked.{Checked}
+use Rattle.planner.specs.declared.Checked.the-variants.{Clear, Clash, Refused as ClashRefused}
+use Rattle.planner.specs.declared.Led.{Led}
+use Rattle.planner.specs.declared.Led.the-variants.{By, Refused as LeadRefused}
+
+abbrev pub enteredOf : Entered → Option ℕ
+enteredOf (At step) = some (step .0)
+enteredOf Nowhere = none
+
+abbrev pub checkedOf : Checked → Outcome (Option Shown)
+checkedOf Clear = is none
+checkedOf (Clash later earlier link step) = is (some (record { later = later; earlier = earlier; resource = link; step = step .0 }))
+checkedOf (ClashRefused refusal) = refusalOf refusal
+
+-- clear, or the clash
+abbrev pub clearOr : Option Shown → Checked
+clearOr none = Clear
+clearOr (some x) = Clash (x .later) (x .earlier) (x .resource) (record { 0 = x .step })
+
+abbrev pub ledOf : Led → Outcome ℤ
+ledOf (By difference) = is difference
+ledOf (LeadRefused refusal) = refusalOf refusal
+
+-- an entry step that fits an i32
+abbrev pub Near : Entered → Type 0
+Near (At step) = step .0 < 2147483648
+Near Nowhere = Unit
+
+-- the planner's verdict, and the lent list afterwards
+pub record PlannedAs (answer : Outcome (List ℕ)) (told : Verdict) (lent after : List ℕ) : Type 0 where
+  pub verdict : verdictOf told ≡ onward answer (λ starts. fine)
+  pub list : after ≡ lentAfter answer lent
