@@ -9,10 +9,10 @@ use Rattle.job.specs.declared.Refusal.{Refusal}
 use Rattle.job.specs.declared.Refusal.the-variants.{TextTooLong, BadForm, Size, NoNode, SelfLink, NoLink, NotLeaving, Revisited, Disagree, ShortRoom, StartCount, LateStart, NoLead}
 use Rattle.job.specs.declared.Verdict.{Verdict}
 use Rattle.job.specs.declared.Verdict.the-variants.{Fine, Refused}
-use Rattle.job.specs.Told.{refusalOf, verdictOf}
+use Rattle.job.specs.Told.{numberPlace, verdictOf}
 
 -- the refusal with a number and a place
-abbrev numbered : (number place : ℕ) → Refusal
+abbrev pub numbered : (number place : ℕ) → Refusal
 numbered n p =
     pick (eqb n 1) TextTooLong
     (pick (eqb n 2) (BadForm p)
@@ -27,35 +27,29 @@ numbered n p =
     (pick (eqb n 11) StartCount
     (pick (eqb n 12) (LateStart p) NoLead)))))))))))
 
+pub numbered-refusal : (r : Refusal) → numbered (numberPlace r .0) (numberPlace r .1) ≡ r
+numbered-refusal TextTooLong = refl
+numbered-refusal (BadForm p) = refl
+numbered-refusal (Size p) = refl
+numbered-refusal (NoNode p) = refl
+numbered-refusal (SelfLink p) = refl
+numbered-refusal (NoLink p) = refl
+numbered-refusal (NotLeaving p) = refl
+numbered-refusal (Revisited p) = refl
+numbered-refusal Disagree = refl
+numbered-refusal ShortRoom = refl
+numbered-refusal StartCount = refl
+numbered-refusal (LateStart p) = refl
+numbered-refusal NoLead = refl
+
 -- the verdict that the rules' verdict is told as
 abbrev told : Ruled → Verdict
 told (is u) = Fine
 told (refused number place) = Refused (numbered number place)
 
-told-refusal : (r : Refusal) → told (refusalOf r) ≡ Refused r
-told-refusal TextTooLong = refl
-told-refusal (BadForm p) = refl
-told-refusal (Size p) = refl
-told-refusal (NoNode p) = refl
-told-refusal (SelfLink p) = refl
-told-refusal (NoLink p) = refl
-told-refusal (NotLeaving p) = refl
-told-refusal (Revisited p) = refl
-told-refusal Disagree = refl
-told-refusal ShortRoom = refl
-told-refusal StartCount = refl
-told-refusal (LateStart p) = refl
-told-refusal NoLead = refl
-
 told-verdict : (v : Verdict) → told (verdictOf v) ≡ v
 told-verdict Fine = refl
-told-verdict (Refused r) = told-refusal r
+told-verdict (Refused r) = ap Refused (numbered-refusal r)
 
 pub verdict-injective : (v w : Verdict) → verdictOf v ≡ verdictOf w → v ≡ w
 verdict-injective v w e = sym (told-verdict v) ∙ ap told e ∙ told-verdict w
-
-refused-same : {r s : Refusal} → Refused r ≡ Refused s → r ≡ s
-refused-same e = cc
-
-pub refusal-injective : (r s : Refusal) → refusalOf {A = Unit} r ≡ refusalOf s → r ≡ s
-refusal-injective r s e = refused-same (verdict-injective (Refused r) (Refused s) e)

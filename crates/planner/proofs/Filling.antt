@@ -1,15 +1,14 @@
 -- The starts written so far are the first of the greedy ones, and the next is the start after them.
-use mathlib.Core.Path.{_≡_, refl, sym, ap, _∙_}
-use mathlib.Core.List.{List, [], _∷_, _++_, map, append-assoc}
-use mathlib.Core.Option.{some}
-use Prim.Native.Nat.{ℕ, suc, _+_, _-_, _≤_, _<_}
+use mathlib.Core.Path.{_≡_, sym, _∙_}
+use mathlib.Core.List.{List, [], _++_, map}
+use Prim.Native.Nat.{ℕ, suc, _+_, _≤_, _<_}
 use native.Mathlib.Omega.{arith}
 use native.Mathlib.Numerals.{add-one}
 use lib.ListN.{length, getD, take, drop, set, length-map}
 use lib.Seq.{length-take-le, take-take, take-suc, take-all, drop-cons, take-append-le, set-at, append-snoc}
 use Rattle.counting.proofs.Places.{at-getD}
 use Rattle.rules.specs.Network.{pathsFrom}
-use Rattle.rules.specs.Claims.{linkClaims, place}
+use Rattle.rules.specs.Claims.{linkClaims}
 use Rattle.theorems.proofs.FirstFrees.{first-free-is, first-free-unique}
 use Rattle.theorems.proofs.Greedies.{greedy-each-first, length-greedy-after}
 use Rattle.theorems.proofs.OnPaths.{on-paths-at, take-placed}

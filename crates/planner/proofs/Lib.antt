@@ -7,3 +7,5 @@ pub mod Leading
 pub mod Planning
 pub mod Apart
 pub mod Answering
+pub mod OneAnswer
+pub mod Obeys

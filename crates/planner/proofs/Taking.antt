@@ -1,20 +1,18 @@
 -- Packets listed before one: whether they take a link in a step, and what that says of a start.
 use mathlib.Core.Path.{_≡_, sym, ap₂, _∙_}
-use mathlib.Core.Bool.{Bool, true, false}
-use mathlib.Core.Logic.{_⊎_, inl, inr, ⊎-elim}
+use mathlib.Core.Bool.{true, false}
+use mathlib.Core.Logic.{⊎-elim}
 use mathlib.Core.List.{List, []}
-use mathlib.Core.Option.{some}
 use Prim.Native.Nat.{ℕ, _+_, _≤_, _<_}
 use native.Mathlib.Omega.{arith}
-use native.Mathlib.Nat.{eq-or-lt-of-le, le-trans}
-use lib.ListN.{length, getD, take, getElem?}
-use Rattle.counting.specs.Count.{anyOf}
-use Rattle.counting.proofs.Tests.{any-mem, any-true, any-false, false-of-not-true, never-both}
+use native.Mathlib.Nat.{eq-or-lt-of-le}
+use lib.ListN.{length, getD, take}
+use Rattle.counting.proofs.Tests.{any-mem, any-false, never-both}
 use Rattle.counting.proofs.Places.{some-same, at-below, at-getD, at-mem, mem-at, at-take, at-take-below, mem-take}
 use Rattle.rules.specs.Sizes.{hopsMost}
 use Rattle.rules.specs.Network.{pathsFrom}
-use Rattle.rules.specs.Claims.{Claim, linkClaims, Placed, place, takes, taken, blocked}
-use Rattle.rules.specs.Greedy.{FirstFree, firstFree}
+use Rattle.rules.specs.Claims.{linkClaims, Placed, place, takes, taken, blocked}
+use Rattle.rules.specs.Greedy.{firstFree}
 use Rattle.theorems.proofs.Conflicts.{link-claim-at, at-link-claim, blocked-taken}
 use Rattle.theorems.proofs.FirstFrees.{first-free-is}
 use Rattle.theorems.proofs.OnPaths.{onPaths, on-paths-at, on-paths-split}

@@ -224,13 +224,13 @@ fn first_clash(stops: &[u16], hops: &[u16], starts: &[u16]) -> Checked
     requires { ⌜ Listed (now stops) (now hops) × (length (now starts) ≡ length (now stops)) × (length (now stops) ≤ packetsMost) ⌝ }
     ensures { λ r. ⌜ checkedOf r ≡ is (clashAfter [] (onPaths (now (starts .entry)) (pathsFrom 0 (now (stops .entry)) (now (hops .entry))))) ⌝ }
 {
-    let mut k = 0;
-    while k < stops.len() {
-        let found = clash_of(stops, hops, starts, k);
+    let mut later = 0;
+    while later < stops.len() {
+        let found = clash_of(stops, hops, starts, later);
         let Checked::Clear = found else {
             return found;
         };
-        k += 1;
+        later += 1;
     }
     Checked::Clear
 }

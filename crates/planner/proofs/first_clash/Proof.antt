@@ -1,4 +1,4 @@
--- `planner::first_clash` meets its contract: the first clash is sought from packet k on. A packet that is clear leaves it to those
+-- `planner::first_clash` meets its contract: the first clash is sought from packet `later` on. A packet that is clear leaves it to those
 -- after it, and the first that is not has it.
 use mathlib.Core.Path.{_≡_, refl, sym, ap, _∙_}
 use mathlib.Core.Logic.{⊎-elim}
@@ -15,10 +15,10 @@ use Rattle.planner.proofs.first_clash.Statement.{statement}
 use Rattle.planner.proofs.first_clash.Tie as tie
 
 abbrev Inv-loop : tie.InvT-loop
-Inv-loop stops hops starts k₀ k = (k ≤ length stops) × (clashAfter [] (packets stops hops starts) ≡ clashesFrom (packets stops hops starts) k)
+Inv-loop stops hops starts later₀ later = (later ≤ length stops) × (clashAfter [] (packets stops hops starts) ≡ clashesFrom (packets stops hops starts) later)
 
 abbrev μ-loop : tie.MeasureT-loop
-μ-loop stops hops starts k₀ k = length stops - k
+μ-loop stops hops starts later₀ later = length stops - later
 
 loop-holds : tie.Need-loop-holds Inv-loop μ-loop
 loop-holds c = (omega arith, refl)
@@ -35,8 +35,8 @@ returns c =
     rw (l .loop .inv .1) (first-here _ _ _ (l .before .before .before .before .pre .1) _ (omega arith) (c .before .clash-of .ensures)
     (λ e. ⊎-elim (λ q. omega arith) (λ q. omega arith) (rw e at (c .match .keys2))))
 
-add-k : tie.Need-add-k Inv-loop μ-loop
-add-k c = search needs
+add-later : tie.Need-add-later Inv-loop μ-loop
+add-later c = search needs
 
 loop-less : tie.Need-loop-less Inv-loop μ-loop
 loop-less c = search needs
@@ -47,7 +47,7 @@ loop-again c =
     (omega arith, l .loop .inv .1 ∙ first-later _ _ _ (l .before .before .before .before .pre .1) _ (omega arith) (sym (c .before .before .clash-of .ensures) ∙ c .enum-told .given .1))
 
 returns-2 : tie.Need-returns-2 Inv-loop μ-loop
-returns-2 c = let l = c .before in ap {B = Outcome (Option Clash)} is (sym (l .loop .inv .1 ∙ first-nowhere _ _ _ (l .before .before .before .before .pre .1) (l .loop .k) (omega arith)))
+returns-2 c = let l = c .before in ap {B = Outcome (Option Clash)} is (sym (l .loop .inv .1 ∙ first-nowhere _ _ _ (l .before .before .before .before .pre .1) (l .loop .later) (omega arith)))
 
 pub first-clash-spec : {M : Type 1} → statement M
 first-clash-spec =
@@ -59,7 +59,7 @@ first-clash-spec =
     clash-of-requires
     enum-told
     returns
-    add-k
+    add-later
     loop-less
     loop-again
     returns-2)

@@ -1,6 +1,5 @@
 -- `planner::lead` meets its contract: the refusals in their order, then the difference of the two entry steps.
 use mathlib.Core.Path.{_≡_, sym, _∙_}
-use native.Mathlib.Omega.{arith}
 use borrow.Author.Needs.{needs}
 use denote.Ref.{now}
 use lib.ListN.{length}

@@ -1,5 +1,4 @@
 -- `planner::plan` meets its contract: the tables' refusals, then the room, then the greedy starts.
-use mathlib.Core.Path.{sym, _∙_}
 use native.Mathlib.Omega.{arith}
 use borrow.Author.Needs.{needs}
 use Rattle.planner.proofs.Planning.{job-listed, fine-job, plan-refused, plan-short, plan-filled}
