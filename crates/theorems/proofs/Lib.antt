@@ -10,6 +10,7 @@ pub mod Paths
 pub mod Accepted
 pub mod TextJobs
 pub mod Bounds
+pub mod Counts
 pub mod Numbers
 pub mod PlanLength
 pub mod Demands

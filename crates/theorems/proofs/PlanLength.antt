@@ -5,15 +5,16 @@ use Prim.Native.Nat.{ℕ, suc, _+_, _*_, _≤_}
 use native.Mathlib.Omega.{arith}
 use lib.ListN.{length, length-append}
 use Rattle.counting.specs.Count.{bit, among, sumBelow}
-use Rattle.counting.proofs.Sums.{bit-le-one, sum-le, sum-const, max-le}
-use Rattle.counting.proofs.Hits.{max-below-le, sum-below-mono}
+use Rattle.counting.proofs.Sums.{bit-le-one, sum-le, sum-const}
+use Rattle.counting.proofs.Hits.{sum-below-mono}
 use Rattle.counting.proofs.Places.{at-mem}
 use Rattle.rules.specs.Sizes.{packetsMost, pathMost, startMost, planMost}
 use Rattle.rules.specs.Network.{Job, paths}
-use Rattle.rules.specs.Counts.{endOf, routingTime, load, congestion, dilation, linkCount}
+use Rattle.rules.specs.Counts.{endOf, routingTime, load, congestion, dilation}
 use Rattle.rules.specs.Bytes.{letterS, letterT, digits, decimal, fieldsText, lineText}
 use Rattle.rules.specs.PlanText.{packetLines, planText}
 use Rattle.theorems.proofs.Bounds.{routing-time-le}
+use Rattle.theorems.proofs.Counts.{congestion-least, dilation-least}
 use Rattle.theorems.proofs.Numbers.{decimal-length-le}
 
 -- how many digits the numbers below n have together
@@ -67,12 +68,7 @@ load-le link ps =
     omega (arith, sum-le (λ p. bit (among link p)) (λ p. 1) ps (λ p m. bit-le-one (among link p)), sum-const {A = List ℕ} 1 ps)
 
 pub congestion-le : (j : Job) → congestion j ≤ length (paths j)
-unfolding congestion
-congestion-le j = max-below-le (λ link. load link (paths j)) (linkCount j) (length (paths j)) (λ link l. load-le link (paths j))
-
-dilation-le : (j : Job) → PathsFit (paths j) → dilation j ≤ pathMost
-unfolding dilation
-dilation-le j g = max-le (λ p. length p) (paths j) pathMost g
+congestion-le j = congestion-least j (length (paths j)) (λ link l. load-le link (paths j))
 
 pub plan-length-le : (j : Job) (starts : List ℕ) → length starts ≤ packetsMost → ((s : ℕ) → List·Memᴰ s starts → s ≤ startMost)
     → ((p : List ℕ) → List·Memᴰ p (paths j) → length p ≤ pathMost) → length (paths j) ≤ packetsMost → length (planText j starts) ≤ planMost
@@ -87,5 +83,5 @@ plan-length-le j starts m f g n =
       line-length letterT time (congestion j) (dilation j),
       decimal-length-le 4 time (omega (arith, ends-le starts (paths j) f g)),
       decimal-length-le 3 (congestion j) (omega (arith, congestion-le j)),
-      decimal-length-le 2 (dilation j) (omega (arith, dilation-le j g)),
+      decimal-length-le 2 (dilation j) (omega (arith, dilation-least j pathMost g)),
     )
