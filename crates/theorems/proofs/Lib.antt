@@ -16,5 +16,6 @@ pub mod PlanLength
 pub mod Demands
 pub mod Leads
 pub mod Started
+pub mod Rows
 pub mod TextFronts
 pub mod Checked
