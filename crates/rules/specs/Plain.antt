@@ -19,15 +19,21 @@ pub record Conflict (s : ℕ) (p : List ℕ) (t : ℕ) (q : List ℕ) : Type 0 w
   pub one : Enters s p link step
   pub other : Enters t q link step
 
--- packet k, whose path is p, would if started at s meet nobody listed before it
-abbrev pub Free : List (List ℕ) → List ℕ → ℕ → List ℕ → ℕ → Type 0
-Free ps ss k p s = (j : ℕ) (q : List ℕ) (t : ℕ) → j < k → getElem? ps j ≡ some q → getElem? ss j ≡ some t → Conflict s p t q → ⊥
+-- packet k, whose path is p, would if started at s conflict with one listed before it, and that is the one
+pub record Blocked (ps : List (List ℕ)) (ss : List ℕ) (k : ℕ) (p : List ℕ) (s : ℕ) : Type 0 where
+  pub by : ℕ
+  pub path : List ℕ
+  pub start : ℕ
+  pub before : by < k
+  pub is-path : getElem? ps by ≡ some path
+  pub is-start : getElem? ss by ≡ some start
+  pub conflict : Conflict s p start path
 
--- the starts of source document 003's greedy algorithm: each is free, and no smaller step is
+-- the starts of source document 003's greedy algorithm: none is blocked, and every smaller step is
 pub record Starts (ps : List (List ℕ)) (ss : List ℕ) : Type 0 where
   pub count : length ss ≡ length ps
-  pub free : (k : ℕ) (p : List ℕ) (s : ℕ) → getElem? ps k ≡ some p → getElem? ss k ≡ some s → Free ps ss k p s
-  pub least : (k : ℕ) (p : List ℕ) (s t : ℕ) → getElem? ps k ≡ some p → getElem? ss k ≡ some s → t < s → Free ps ss k p t → ⊥
+  pub free : (k : ℕ) (p : List ℕ) (s : ℕ) → getElem? ps k ≡ some p → getElem? ss k ≡ some s → Blocked ps ss k p s → ⊥
+  pub least : (k : ℕ) (p : List ℕ) (s t : ℕ) → getElem? ps k ≡ some p → getElem? ss k ≡ some s → t < s → Blocked ps ss k p t
 
 -- packet k, of these paths and starts, enters the link in the step
 pub record EntersAt (ps : List (List ℕ)) (ss : List ℕ) (k link step : ℕ) : Type 0 where

@@ -1,6 +1,6 @@
 -- The greedy starts of a job are the plain ones, and there are no others.
 use mathlib.Core.Path.{_≡_, refl, sym, ap, _∙_}
-use mathlib.Core.Bool.{false}
+use mathlib.Core.Bool.{true}
 use mathlib.Core.Logic.{_↔_}
 use mathlib.Core.List.{List, [], _∷_, map}
 use mathlib.Core.Option.{some}
@@ -8,32 +8,40 @@ use Prim.Native.Nat.{ℕ, zero, suc, _<_}
 use native.Mathlib.Omega.{arith}
 use native.Mathlib.Decide.{decLt}
 use lib.ListN.{length, take, getElem?, length-map}
-use Rattle.counting.proofs.Tests.{any-mem, any-true, false-of-not-true, true-of-not-false, never-both}
+use Rattle.counting.proofs.Tests.{any-mem, any-true, false-of-not-true, never-both}
 use Rattle.counting.proofs.Places.{at-mem, mem-at, at-take, at-take-below}
 use Rattle.rules.specs.Network.{Job, paths}
-use Rattle.rules.specs.Claims.{linkClaims, claims, place, conflict, blocked}
+use Rattle.rules.specs.Claims.{linkClaims, claims, Placed, place, conflict, blocked}
 use Rattle.rules.specs.Greedy.{greedy, greedyAfter}
-use Rattle.rules.specs.Plain.{Conflict, Free, Starts}
+use Rattle.rules.specs.Plain.{Conflict, Blocked, Starts}
 use Rattle.theorems.proofs.Conflicts.{conflict-iff, conflict-sym}
 use Rattle.theorems.proofs.OnPaths.{onPaths, on-paths-at, on-paths-split}
 use Rattle.theorems.proofs.Greedies.{EachFirst, greedy-each-first, each-first-greedy, length-greedy-after, greedy-take}
 
--- free of those listed before is not blocked by them
-pub free-iff : (ps : List (List ℕ)) (ss : List ℕ) (k : ℕ) (p : List ℕ) (s : ℕ) → Free ps ss k p s ↔ (blocked (take k (onPaths ss ps)) (linkClaims 0 p) s ≡ false)
+-- blocked, over claims, is blocked by a packet listed before
+pub blocked-iff : (ps : List (List ℕ)) (ss : List ℕ) (k : ℕ) (p : List ℕ) (s : ℕ) → (blocked (take k (onPaths ss ps)) (linkClaims 0 p) s ≡ true) ↔ Blocked ps ss k p s
 unfolding blocked
-free-iff ps ss k p s = (
-  λ free. false-of-not-true _ (λ e.
-      let t = any-true (λ b. conflict (place s (linkClaims 0 p)) b) (take k (onPaths ss ps)) e in
-      let m = mem-at (t .1) in
-      let l : m .0 < k = at-take-below (onPaths ss ps) k (m .0) (m .1) in
-      let st = on-paths-split ss ps (m .0) (sym (at-take (onPaths ss ps) k (m .0) l) ∙ m .1) in
-      free (m .0) (st .path) (t .0 .start) l (st .is-path) (st .is-start)
-      (conflict-iff s p (t .0 .start) (st .path) .0 (rw (st .is-placed) at (t .2)))),
-  λ e i q t l is-path is-start c.
-      never-both (blocked (take k (onPaths ss ps)) (linkClaims 0 p) s)
-      (any-mem (λ b. conflict (place s (linkClaims 0 p)) b)
-      (at-mem (take k (onPaths ss ps)) i (at-take (onPaths ss ps) k i l ∙ on-paths-at ss ps i is-start is-path)) (conflict-iff s p t q .1 c)) e,
+blocked-iff ps ss k p s = (
+  λ e. let (b, among, conflicts) = any-true (λ b. conflict (place s (linkClaims 0 p)) b) (take k xs) e in
+      let (i, at) = mem-at among in
+      let before = at-take-below xs k i at in
+      let st = on-paths-split ss ps i (sym (at-take xs k i before) ∙ at) in
+      record {
+        by = i;
+        path = st .path;
+        start = b .start;
+        before = before;
+        is-path = st .is-path;
+        is-start = st .is-start;
+        conflict = conflict-iff s p (b .start) (st .path) .0 (rw (st .is-placed) at conflicts);
+      },
+  λ b. any-mem (λ b. conflict (place s (linkClaims 0 p)) b)
+      (at-mem (take k xs) (b .by) (at-take xs k (b .by) (b .before) ∙ on-paths-at ss ps (b .by) (b .is-start) (b .is-path)))
+      (conflict-iff s p (b .start) (b .path) .1 (b .conflict)),
 )
+  where
+    xs : List Placed
+    xs = onPaths ss ps
 
 pub starts-iff : (ps : List (List ℕ)) (ss : List ℕ) → Starts ps ss ↔ ((length ss ≡ length ps) × EachFirst [] (onPaths ss ps))
 starts-iff ps ss = (
@@ -41,15 +49,14 @@ starts-iff ps ss = (
     st .count,
     λ k b e. let r = on-paths-split ss ps k e in
         rw (r .is-placed) (record {
-          free = free-iff ps ss k (r .path) (b .start) .0 (st .free k (r .path) (b .start) (r .is-path) (r .is-start));
-          least = λ t l. true-of-not-false _ (λ f. st .least k (r .path) (b .start) t (r .is-path) (r .is-start) l (free-iff ps ss k (r .path) t .1 f));
+          free = false-of-not-true _ (λ f. st .free k (r .path) (b .start) (r .is-path) (r .is-start) (blocked-iff ps ss k (r .path) (b .start) .0 f));
+          least = λ t l. blocked-iff ps ss k (r .path) t .1 (st .least k (r .path) (b .start) t (r .is-path) (r .is-start) l);
         }),
   ),
   λ h. record {
     count = h .0;
-    free = λ k p s is-path is-start. free-iff ps ss k p s .1 (h .1 k (place s (linkClaims 0 p)) (on-paths-at ss ps k is-start is-path) .free);
-    least = λ k p s t is-path is-start l free.
-        never-both _ (h .1 k (place s (linkClaims 0 p)) (on-paths-at ss ps k is-start is-path) .least t l) (free-iff ps ss k p t .0 free);
+    free = λ k p s is-path is-start b. never-both _ (blocked-iff ps ss k p s .1 b) (h .1 k _ (on-paths-at ss ps k is-start is-path) .free);
+    least = λ k p s t is-path is-start l. blocked-iff ps ss k p t .0 (h .1 k _ (on-paths-at ss ps k is-start is-path) .least t l);
   },
 )
 
@@ -75,8 +82,10 @@ pub greedy-no-conflict : (j : Job) (i k : ℕ) (p q : List ℕ) (s t : ℕ) → 
 greedy-no-conflict j i k p q s t apart is-p is-q is-s is-t c = go (decLt i k)
   where
     go : Dec (i < k) → ⊥
-    go (yes l) = greedy-starts j .free k q t is-q is-t i p s l is-p is-s (conflict-sym c)
-    go (no f) = greedy-starts j .free i p s is-p is-s k q t (omega arith) is-q is-t c
+    go (yes l) =
+        greedy-starts j .free k q t is-q is-t (record { by = i; path = p; start = s; before = l; is-path = is-p; is-start = is-s; conflict = conflict-sym c })
+    go (no f) =
+        greedy-starts j .free i p s is-p is-s (record { by = k; path = q; start = t; before = omega arith; is-path = is-q; is-start = is-t; conflict = c })
 
 -- the starts up to a packet depend only on the packets up to it
 pub greedy-front : (j j′ : Job) (n : ℕ) → take n (paths j) ≡ take n (paths j′) → take n (greedy j) ≡ take n (greedy j′)
