@@ -52,9 +52,12 @@ distinct-new ns n ms d = false-of-not-true (among n ns) twice
         let l = at-below ns i e in
         omega (arith, d i (length ns) n (at-append-left ns (n ∷ ms) i l ∙ e) (at-append-seam ns n ms))
 
+pub distinct-tail : (n : ℕ) (ns : List ℕ) → Distinct (n ∷ ns) → Distinct ns
+distinct-tail n ns d p q m a b = suc-inj (d (suc p) (suc q) m a b)
+
 pub distinct-occurs : (ns : List ℕ) → Distinct ns → (n : ℕ) → occurs n ns ≤ 1
 distinct-occurs [] d n = omega arith
-distinct-occurs (m ∷ ns) d n = go (eqb m n) refl (distinct-occurs ns (λ p q k a b. suc-inj (d (suc p) (suc q) k a b)) n)
+distinct-occurs (m ∷ ns) d n = go (eqb m n) refl (distinct-occurs ns (distinct-tail m ns d) n)
   where
     go : (t : Bool) → eqb m n ≡ t → occurs n ns ≤ 1 → bit t + occurs n ns ≤ 1
     go false e r = omega arith

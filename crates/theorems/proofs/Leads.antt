@@ -1,22 +1,23 @@
--- The lead: its steps are those in which the packets enter the link, it lies from −33,021 to 33,021 and reaches both, it is
--- zero exactly if the two steps are one, and from the other packet's side it is the opposite.
+-- The lead: its steps are those in which the packets enter the link, there is none only where one of them does not, it lies
+-- from −33,021 to 33,021 and reaches both, and from the other packet's side it is the opposite.
 use mathlib.Core.Path.{_≡_, refl, sym, ap, _∙_}
-use mathlib.Core.Bool.{Bool, true, false, not, cond, _||_}
+use mathlib.Core.Bool.{Bool, true, false, not, cond, false≢true}
 use mathlib.Core.List.{List, [], _∷_, _++_, List·Memᴰ}
 use mathlib.Core.Option.{Option, none, some}
-use mathlib.Core.Logic.{_↔_, _≢_}
-use Prim.Native.Nat.{ℕ, zero, suc, _-_, _≤_}
+use mathlib.Core.Logic.{_↔_, _≢_, _⊎_, inl, inr, ⊎-elim, ⊎-map, Iff·trans}
+use Prim.Native.Nat.{ℕ, zero, suc, _+_, _-_, _≤_}
 use native.Mathlib.Omega.{arith}
 use lib.Dec.{eqb, ltb}
 use lib.ListN.{length, getElem?}
 use lib.IntN.{ℤ, pos, negsuc, negℤ, natAbs, _+ℤ_, _-ℤ_, +ℤ-invr, +ℤ-comm, negℤ-+ℤ, negℤ-negℤ, -ℤ-+ℤ-cancel}
-use borrow.Author.Tests.{eqb-true, ne-eqb, ltb-true}
-use Rattle.counting.specs.Count.{pick, among}
+use borrow.Author.Tests.{eqb-true, eq-eqb, ne-eqb, ltb-true}
+use Rattle.counting.specs.Count.{pick}
 use Rattle.counting.proofs.Tests.{eqb-comm}
 use Rattle.counting.proofs.Places.{some-same, none-not-some, at-below, at-mem}
+use Rattle.counting.proofs.Distinct.{Distinct, distinct-tail}
 use Rattle.rules.specs.Sizes.{startMost, pathMost, leadMost}
 use Rattle.rules.specs.Network.{Job, linkAt, pathsFrom, paths}
-use Rattle.rules.specs.Outcome.{is, must, _then_, onward}
+use Rattle.rules.specs.Outcome.{is, refused, must, _then_, onward}
 use Rattle.rules.specs.Tables.{linkVerdict, walk, packetVerdict, linksVerdict, packetsVerdict, stopsAgree, tables}
 use Rattle.rules.specs.Lead.{entryStep, leadOf, entryOf, entryAt, lead}
 use Rattle.rules.specs.Answers.{startsVerdict, startedVerdict, led}
@@ -33,15 +34,17 @@ entry-enters link s (l ∷ ls) t e = go (eqb l link) refl e (entry-enters link (
     go true q e r = record { hop = 0; there = ap some (eqb-true l link q); then-step = omega (arith, some-same e) }
     go false q e r = let later = r e in record { hop = suc (later .hop); there = later .there; then-step = omega (arith, later .then-step) }
 
--- where there is none, the link is not on the path
-pub no-entry : (link s : ℕ) (path : List ℕ) → entryStep link s path ≡ none → among link path ≡ false
+-- and if no link stands twice on the path, it is the one step in which the packet enters the link
+entry-of-hop : (link s : ℕ) (path : List ℕ) (hop : ℕ) → Distinct path → getElem? path hop ≡ some link → entryStep link s path ≡ some (s + hop)
 unfolding entryStep
-no-entry link s [] e = refl
-no-entry link s (l ∷ ls) e = go (eqb l link) e (no-entry link (suc s) ls)
-  where
-    go : (b : Bool) → pick b (some s) (entryStep link (suc s) ls) ≡ none → (entryStep link (suc s) ls ≡ none → among link ls ≡ false) → (b || among link ls) ≡ false
-    go true e r = absurd (none-not-some (sym e))
-    go false e r = r e
+entry-of-hop link s [] hop d e = absurd (none-not-some e)
+entry-of-hop link s (l ∷ ls) zero d e = rw (eq-eqb l link (some-same e)) (ap some (omega arith))
+entry-of-hop link s (l ∷ ls) (suc hop) d e =
+    let other : l ≢ link = λ q. omega (arith, d 0 (suc hop) link (ap {B = Option ℕ} some q) e) in
+    rw (ne-eqb l link other) (entry-of-hop link (suc s) ls hop (distinct-tail l ls d) e ∙ ap some (omega arith))
+
+pub enters-entry : (link s : ℕ) (path : List ℕ) {t : ℕ} → Distinct path → Enters s path link t → entryStep link s path ≡ some t
+enters-entry link s path d e = entry-of-hop link s path (e .hop) d (e .there) ∙ ap {B = Option ℕ} some (e .then-step)
 
 pub entry-at-enters : (starts : List ℕ) (ps : List (List ℕ)) (link k : ℕ) {x : ℕ} → entryAt starts ps link k ≡ some x → EntersAt ps starts k link x
 unfolding entryAt
@@ -51,6 +54,10 @@ entry-at-enters starts ps link k {x} e = go (getElem? starts k) (getElem? ps k) 
     go none p f g e = absurd (none-not-some e)
     go (some s) none f g e = absurd (none-not-some e)
     go (some s) (some p) f g e = record { start = s; path = p; is-start = f; is-path = g; enters = entry-enters link s p x e }
+
+pub enters-at-entry : (starts : List ℕ) (ps : List (List ℕ)) (link k : ℕ) {x : ℕ} → ((p : List ℕ) → List·Memᴰ p ps → Distinct p) → EntersAt ps starts k link x → entryAt starts ps link k ≡ some x
+unfolding entryAt
+enters-at-entry starts ps link k d e = rw (e .is-start, e .is-path) (enters-entry link (e .start) (e .path) (d (e .path) (at-mem ps k (e .is-path))) (e .enters))
 
 -- the last hop of the longest path after the latest start
 entry-at-le : (starts : List ℕ) (ps : List (List ℕ)) (link k : ℕ) {x : ℕ} → ((s : ℕ) → List·Memᴰ s starts → s ≤ startMost)
@@ -89,19 +96,22 @@ lead-in-range starts ps f g a b link z e =
     let (x, y, p, q, d) = lead-of-entries (not (eqb a b)) _ _ z e in
     rw (← d) (abs-sub-le x y leadMost (entry-at-le starts ps link a f g p) (entry-at-le starts ps link b f g q))
 
-lead-of-zero-iff : (x y : ℕ) → (leadOf (some x) (some y) ≡ is (pos 0)) ↔ (x ≡ y)
-lead-of-zero-iff x y = (to, λ e. rw e (ap is (+ℤ-invr (pos y))))
-  where
-    to : is (pos x -ℤ pos y) ≡ is (pos 0) → x ≡ y
-    to e =
-        let d : pos x -ℤ pos y ≡ pos 0 = cc in
-        omega (arith, ap natAbs (sym (-ℤ-+ℤ-cancel (pos x) (pos y)) ∙ ap (λ z. z +ℤ pos y) d))
-
--- the lead is zero exactly if both packets enter the link in one step
-pub lead-zero-iff : (starts : List ℕ) (ps : List (List ℕ)) (a b link : ℕ) {x y : ℕ} → entryAt starts ps link a ≡ some x
-    → entryAt starts ps link b ≡ some y → a ≢ b → (lead starts ps a b link ≡ is (pos 0)) ↔ (x ≡ y)
+-- there is none exactly if the two packets are one, or one of the two has no entry step
+pub no-lead-iff : (starts : List ℕ) (ps : List (List ℕ)) (a b link : ℕ) → (lead starts ps a b link ≡ refused 13 0) ↔ ((a ≡ b) ⊎ ((entryAt starts ps link a ≡ none) ⊎ (entryAt starts ps link b ≡ none)))
 unfolding lead
-lead-zero-iff starts ps a b link {x} {y} p q d = rw (ne-eqb a b d, p, q) (lead-of-zero-iff x y)
+no-lead-iff starts ps a b link = Iff·trans (go (eqb a b) _ _) (⊎-map (eqb-true a b) (λ h. h), ⊎-map (eq-eqb a b) (λ h. h))
+  where
+    go : (t : Bool) (m n : Option ℕ) → (must (not t) 13 0 then leadOf m n ≡ refused 13 0) ↔ ((t ≡ true) ⊎ ((m ≡ none) ⊎ (n ≡ none)))
+    go true m n = (λ e. inl refl, λ h. refl)
+    go false none n = (λ e. inr (inl refl), λ h. refl)
+    go false (some x) none = (λ e. inr (inr refl), λ h. refl)
+    go false (some x) (some y) = (
+      λ e. absurd (refused-not-is (sym e)),
+      ⊎-elim (λ e. absurd (false≢true e)) (⊎-elim (λ e. absurd (none-not-some (sym e))) (λ e. absurd (none-not-some (sym e)))),
+    )
+
+pub sub-zero-iff : (x y : ℕ) → (pos x -ℤ pos y ≡ pos 0) ↔ (x ≡ y)
+sub-zero-iff x y = (λ d. omega (arith, ap natAbs (sym (-ℤ-+ℤ-cancel (pos x) (pos y)) ∙ ap (λ z. z +ℤ pos y) d)), λ e. rw e (+ℤ-invr (pos y)))
 
 sub-opposite : (x y : ℕ) → negℤ (pos x -ℤ pos y) ≡ pos y -ℤ pos x
 sub-opposite x y = rw (negℤ-+ℤ, negℤ-negℤ) (+ℤ-comm (negℤ (pos x)) (pos y))
