@@ -1,5 +1,4 @@
--- What the tables accept, in plain terms: sizes within their limits, links between two nodes of the network, and packets on
--- paths of it.
+-- The tables accept exactly the jobs of specs/Jobs.antt; and how many paths and hops such a job has.
 use mathlib.Core.Path.{_≡_, refl, sym, ap}
 use mathlib.Core.Bool.{true}
 use mathlib.Core.List.{List, [], _∷_, _++_, List·Memᴰ}
@@ -11,17 +10,12 @@ use lib.ListN.{length, getD, getElem?}
 use lib.Seq.{length-slice}
 use Rattle.counting.specs.Count.{sumOf}
 use Rattle.counting.proofs.Places.{some-same, none-not-some, at-below, at-getD, at-snoc, mem-at}
-use Rattle.rules.specs.Sizes.{nodesMost, linksMost, packetsMost, pathMost, hopsMost}
 use Rattle.rules.specs.Network.{Network, Job, pathsFrom, paths}
-use Rattle.rules.specs.Path.{IsPath}
 use Rattle.rules.specs.Outcome.{fine}
 use Rattle.rules.specs.Tables.{linkVerdict, packetVerdict, linksVerdict, packetsVerdict, stopsAgree, tables}
+use Rattle.theorems.specs.Jobs.{AtEach, IsLink, IsPacket, StopsFit, IsJob}
 use Rattle.theorems.proofs.Verdicts.{leb-iff, eqb-iff, and-iff, not-iff, must-iff, then-iff}
 use Rattle.theorems.proofs.Paths.{walk-fine-iff}
-
--- the statement holds of what stands at one place in both lists, at every place
-abbrev pub AtEach : {A B : Type 0} → (A → B → Type 0) → List A → List B → Type 0
-AtEach {A} {B} P xs ys = (i : ℕ) (x : A) (y : B) → getElem? xs i ≡ some x → getElem? ys i ≡ some y → P x y
 
 module _ {A B : Type 0} (P : A → B → Type 0) where
   at-each-cons-iff : (x : A) (xs : List A) (y : B) (ys : List B) → (P x y × AtEach P xs ys) ↔ AtEach P (x ∷ xs) (y ∷ ys)
@@ -40,30 +34,19 @@ module _ {A B : Type 0} (P : A → B → Type 0) where
       go (inr a) (inl b) = absurd (omega (arith, at-below ys i b, a .0))
       go (inr a) (inr b) = rw (← a .1, ← b .1) new
 
--- a link of a network with so many nodes
-pub record IsLink (nodes from to : ℕ) : Type 0 where
-  pub from-node : from < nodes
-  pub to-node : to < nodes
-  pub apart : from ≡ to → ⊥
-
--- a packet of the network
-pub record IsPacket (net : Network) (source : ℕ) (path : List ℕ) : Type 0 where
-  pub short : length path ≤ pathMost
-  pub source-node : source < net .nodes
-  pub on-path : IsPath net source path
-
--- a job that is accepted
-pub record IsJob (j : Job) : Type 0 where
-  pub ends-count : length (j .network .ends) ≡ length (j .network .origins)
-  pub stops-count : length (j .stops) ≡ length (j .sources)
-  pub stops-agree : stopsAgree 0 (j .stops) (length (j .hops)) ≡ true
-  pub nodes-least : 1 ≤ j .network .nodes
-  pub nodes-most : j .network .nodes ≤ nodesMost
-  pub links-most : length (j .network .origins) ≤ linksMost
-  pub packets-most : length (j .sources) ≤ packetsMost
-  pub hops-most : length (j .hops) ≤ hopsMost
-  pub links : AtEach (IsLink (j .network .nodes)) (j .network .origins) (j .network .ends)
-  pub packets : AtEach (IsPacket (j .network)) (j .sources) (paths j)
+-- the test of the stops means that they fit
+pub stops-agree-iff : (first : ℕ) (stops : List ℕ) (hops : ℕ) → (stopsAgree first stops hops ≡ true) ↔ StopsFit first stops hops
+unfolding stopsAgree
+stops-agree-iff first [] hops = (
+  λ e. record { rise = λ i s t a b. absurd (none-not-some b); last = ap some (eqb-iff first hops .0 e) },
+  λ h. eqb-iff first hops .1 (some-same (h .last)),
+)
+stops-agree-iff first (e ∷ es) hops =
+    let rise = at-each-cons-iff _≤_ first (e ∷ es) e es in
+    Iff·trans (and-iff (leb-iff first e) (stops-agree-iff e es hops)) (
+      λ (l, h). record { rise = rise .0 (l, h .rise); last = h .last },
+      λ h. let (l, r) = rise .1 (h .rise) in (l, record { rise = r; last = h .last }),
+    )
 
 pub link-fine-iff : (nodes place from to : ℕ) → (linkVerdict nodes place from to ≡ fine) ↔ IsLink nodes from to
 unfolding linkVerdict
@@ -95,16 +78,16 @@ tables-fine-iff j =
     Iff·trans
     (then-iff (must-iff _ _ (eqb-iff _ _))
     (then-iff (must-iff _ _ (eqb-iff _ _))
-    (then-iff (must-iff _ _ Iff·rfl)
+    (then-iff (must-iff _ _ (stops-agree-iff 0 (j .stops) (length (j .hops))))
     (then-iff (must-iff _ _ (and-iff (leb-iff _ _) (leb-iff _ _)))
     (then-iff (must-iff _ _ (leb-iff _ _))
     (then-iff (must-iff _ _ (leb-iff _ _))
     (then-iff (must-iff _ _ (leb-iff _ _))
     (then-iff (links-fine-iff _ 0 (j .network .origins) (j .network .ends)) (packets-fine-iff (j .network) 0 (j .sources) (paths j)))))))))) (
-      λ (ends, (stops, (agree, ((least, most), (links, (packets, (hops, (each-link, each-packet)))))))). record {
+      λ (ends, (stops, (fit, ((least, most), (links, (packets, (hops, (each-link, each-packet)))))))). record {
         ends-count = sym ends;
         stops-count = sym stops;
-        stops-agree = agree;
+        stops-fit = fit;
         nodes-least = least;
         nodes-most = most;
         links-most = links;
@@ -113,8 +96,12 @@ tables-fine-iff j =
         links = each-link;
         packets = each-packet;
       },
-      λ h. (sym (h .ends-count), (sym (h .stops-count), (h .stops-agree, ((h .nodes-least, h .nodes-most), (h .links-most, (h .packets-most, (h .hops-most, (h .links, h .packets)))))))),
+      λ h. (sym (h .ends-count), (sym (h .stops-count), (h .stops-fit, ((h .nodes-least, h .nodes-most), (h .links-most, (h .packets-most, (h .hops-most, (h .links, h .packets)))))))),
     )
+
+-- of an accepted job they pass it
+pub job-stops-agree : (j : Job) → IsJob j → stopsAgree 0 (j .stops) (length (j .hops)) ≡ true
+job-stops-agree j h = stops-agree-iff 0 (j .stops) (length (j .hops)) .1 (h .stops-fit)
 
 pub length-paths-from : (a : ℕ) (stops hops : List ℕ) → length (pathsFrom a stops hops) ≡ length stops
 unfolding pathsFrom
@@ -136,7 +123,7 @@ hops-from a (e ∷ es) hops t =
 
 pub hops-in-all : (j : Job) → IsJob j → sumOf (λ p. length p) (paths j) ≡ length (j .hops)
 unfolding paths
-hops-in-all j h = omega (arith, hops-from 0 (j .stops) (j .hops) (h .stops-agree))
+hops-in-all j h = omega (arith, hops-from 0 (j .stops) (j .hops) (job-stops-agree j h))
 
 -- every path of an accepted job is some packet's
 pub job-path : (j : Job) → IsJob j → {path : List ℕ} → List·Memᴰ path (paths j) → (source : ℕ) × IsPacket (j .network) source path
@@ -144,24 +131,3 @@ job-path j h m =
     let (k, e) = mem-at m in
     let l : k < length (j .sources) = omega (arith, at-below (paths j) k e, length-paths j, h .stops-count) in
     (getD (j .sources) k 0, h .packets k _ _ (at-getD (j .sources) k 0 l) e)
-
--- ---- the stops in plain terms: none is less than the one before it, and the last, or 0 without packets, is the hop count
-
-pub record StopsFit (first : ℕ) (stops : List ℕ) (hops : ℕ) : Type 0 where
-  pub rise : (i s t : ℕ) → getElem? (first ∷ stops) i ≡ some s → getElem? stops i ≡ some t → s ≤ t
-  pub last : getElem? (first ∷ stops) (length stops) ≡ some hops
-
-pub stops-agree-iff : (first : ℕ) (stops : List ℕ) (hops : ℕ) → (stopsAgree first stops hops ≡ true) ↔ StopsFit first stops hops
-unfolding stopsAgree
-stops-agree-iff first [] hops = (
-  λ e. record { rise = λ i s t a b. absurd (none-not-some b); last = ap some (eqb-iff first hops .0 e) },
-  λ h. eqb-iff first hops .1 (some-same (h .last)),
-)
-stops-agree-iff first (e ∷ es) hops = Iff·trans (and-iff (leb-iff first e) (stops-agree-iff e es hops)) (to, λ h. (h .rise 0 first e refl refl, record { rise = λ i. h .rise (suc i); last = h .last }))
-  where
-    to : (first ≤ e) × StopsFit e es hops → StopsFit first (e ∷ es) hops
-    to (l, h) = record { rise = rise; last = h .last }
-      where
-        rise : (i s t : ℕ) → getElem? (first ∷ e ∷ es) i ≡ some s → getElem? (e ∷ es) i ≡ some t → s ≤ t
-        rise zero s t a b = rw (← some-same a, ← some-same b) l
-        rise (suc i) s t a b = h .rise i s t a b

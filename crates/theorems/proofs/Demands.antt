@@ -14,10 +14,11 @@ use Rattle.rules.specs.Greedy.{FirstFree, greedy}
 use Rattle.rules.specs.Counts.{endOf, linkCount, congestion, dilation, meetingsWith, meetings}
 use Rattle.rules.specs.JobText.{reading}
 use Rattle.theorems.specs.Demands.{Bounded}
+use Rattle.theorems.specs.Jobs.{IsJob}
 use Rattle.theorems.proofs.OnPaths.{onPaths, on-paths-at, take-placed}
 use Rattle.theorems.proofs.Starts.{length-greedy, greedy-first}
 use Rattle.theorems.proofs.Paths.{path-links-exist, path-once}
-use Rattle.theorems.proofs.Accepted.{IsJob, tables-fine-iff, hops-in-all, job-path}
+use Rattle.theorems.proofs.Accepted.{tables-fine-iff, hops-in-all, job-path}
 use Rattle.theorems.proofs.TextJobs.{reading-job}
 use Rattle.theorems.proofs.Bounds.{Simple, start-le-meetings-with, end-le-product, routing-time-le, meetings-at, meetings-le-hops, length-meetings-after, sum-take-le}
 

@@ -19,20 +19,15 @@ use Rattle.rules.specs.Plain.{EntersAt}
 use Rattle.rules.specs.PlanText.{planText}
 use Rattle.rules.specs.Answers.{startsVerdict, startedVerdict, led, answer}
 use Rattle.rules.specs.JobText.{reading}
+use Rattle.theorems.specs.Jobs.{IsJob, IsStarted}
 use Rattle.theorems.proofs.Verdicts.{leb-iff, eqb-iff, is-iff, must-iff, then-iff, then-is-iff, onward-is}
 use Rattle.theorems.proofs.TextJobs.{reading-accepted}
 use Rattle.theorems.proofs.Paths.{path-distinct}
-use Rattle.theorems.proofs.Accepted.{IsJob, tables-fine-iff, length-paths, job-path}
+use Rattle.theorems.proofs.Accepted.{tables-fine-iff, length-paths, job-path}
 use Rattle.theorems.proofs.PlanLength.{plan-length-le}
 use Rattle.theorems.proofs.Leads.{entry-at-enters, enters-at-entry, lead-in-range, no-lead-iff, sub-zero-iff}
 use Rattle.theorems.proofs.Starts.{length-greedy}
 use Rattle.theorems.proofs.Demands.{job-bounded}
-
--- a job and a start for each of its packets, none too late
-pub record IsStarted (j : Job) (starts : List ℕ) : Type 0 where
-  pub job : IsJob j
-  pub count : length starts ≡ length (j .sources)
-  pub in-time : (s : ℕ) → List·Memᴰ s starts → s ≤ startMost
 
 starts-fine-iff : (k : ℕ) (ss : List ℕ) → (startsVerdict k ss ≡ fine) ↔ ((s : ℕ) → List·Memᴰ s ss → s ≤ startMost)
 unfolding startsVerdict

@@ -16,8 +16,9 @@ use Rattle.rules.specs.Outcome.{is, fine, must}
 use Rattle.rules.specs.Tables.{stopsAgree, tables}
 use Rattle.rules.specs.Bytes.{lineFeed, split}
 use Rattle.rules.specs.JobText.{Line, nodes, link, packet, bad, lineOf, blank, withLink, withPacket, withLine, withLines, firstLine, allLines, reading}
+use Rattle.theorems.specs.Jobs.{IsLink, IsPacket, IsJob}
 use Rattle.theorems.proofs.Verdicts.{leb-iff, eqb-iff, and-iff, is-iff, refused-not-is, onward-is, must-iff, then-is-iff, then-iff}
-use Rattle.theorems.proofs.Accepted.{at-each-snoc, IsLink, IsPacket, IsJob, link-fine-iff, packet-fine-iff, tables-fine-iff, length-paths, hops-from}
+use Rattle.theorems.proofs.Accepted.{at-each-snoc, stops-agree-iff, link-fine-iff, packet-fine-iff, tables-fine-iff, job-stops-agree, length-paths, hops-from}
 
 -- one more stop, at the new end of the hops
 stops-agree-snoc : (a : ℕ) (stops : List ℕ) (m n : ℕ) → m ≤ n → stopsAgree a stops m ≡ true → stopsAgree a (stops ++ (n ∷ [])) n ≡ true
@@ -38,14 +39,14 @@ paths-from-snoc a (e ∷ es) hops path t =
 
 pub paths-with-packet : (j : Job) → IsJob j → (source : ℕ) (path : List ℕ) → paths (withPacket j source path) ≡ paths j ++ (path ∷ [])
 unfolding paths
-paths-with-packet j h source path = paths-from-snoc 0 (j .stops) (j .hops) path (h .stops-agree)
+paths-with-packet j h source path = paths-from-snoc 0 (j .stops) (j .hops) path (job-stops-agree j h)
 
 blank-job : (n : ℕ) → 1 ≤ n → n ≤ nodesMost → IsJob (blank n)
 unfolding stopsAgree
 blank-job n a b = record {
   ends-count = refl;
   stops-count = refl;
-  stops-agree = refl;
+  stops-fit = stops-agree-iff 0 [] 0 .0 refl;
   nodes-least = a;
   nodes-most = b;
   links-most = omega arith;
@@ -75,7 +76,7 @@ module _ (j : Job) (h : IsJob j) where
     job = record {
       ends-count = simp length-append (omega (arith, h .ends-count));
       stops-count = h .stops-count;
-      stops-agree = h .stops-agree;
+      stops-fit = h .stops-fit;
       nodes-least = h .nodes-least;
       nodes-most = h .nodes-most;
       links-most = simp length-append (omega arith);
@@ -93,7 +94,7 @@ module _ (j : Job) (h : IsJob j) where
     job = record {
       ends-count = h .ends-count;
       stops-count = simp length-append (omega (arith, h .stops-count));
-      stops-agree = simp length-append (stops-agree-snoc 0 (j .stops) (length (j .hops)) (length (j .hops) + length path) (omega arith) (h .stops-agree));
+      stops-fit = stops-agree-iff 0 _ _ .0 (simp length-append (stops-agree-snoc 0 (j .stops) (length (j .hops)) (length (j .hops) + length path) (omega arith) (job-stops-agree j h)));
       nodes-least = h .nodes-least;
       nodes-most = h .nodes-most;
       links-most = h .links-most;
