@@ -1,21 +1,21 @@
--- Lines that are put after a job's text move none of its packets.
+-- A text cut after a line is accepted where the whole is, and what is put after a job's text moves none of its packets.
 use mathlib.Core.Path.{_≡_, refl, sym, ap, _∙_}
 use mathlib.Core.Bool.{Bool, true, false}
 use mathlib.Core.List.{List, [], _∷_, _++_, head-eq-of-cons-eq, tail-eq-of-cons-eq, nil≢cons, cons≢nil}
-use Prim.Native.Nat.{ℕ, suc}
+use Prim.Native.Nat.{ℕ, suc, _+_}
 use native.Mathlib.Omega.{arith}
-use lib.Dec.{eqb, leb}
-use lib.ListN.{length, take}
+use lib.Dec.{eqb}
+use lib.ListN.{length, take, length-append}
 use lib.Seq.{take-length, take-all}
+use borrow.Author.Tests.{eq-eqb}
 use Rattle.counting.specs.Count.{pick}
-use Rattle.rules.specs.Sizes.{textMost}
 use Rattle.rules.specs.Network.{Job, paths}
-use Rattle.rules.specs.Outcome.{Outcome, is, must, onward}
+use Rattle.rules.specs.Outcome.{Outcome, is, refused, onward}
 use Rattle.rules.specs.Greedy.{greedy}
 use Rattle.rules.specs.Bytes.{lineFeed, onto, split}
 use Rattle.rules.specs.JobText.{lineOf, withLine, withLines, firstLine, allLines, reading}
-use Rattle.theorems.proofs.Verdicts.{refused-not-is, is-iff, eqb-iff, must-iff, then-iff, then-is-iff, onward-is, onward-of}
-use Rattle.theorems.proofs.TextJobs.{reading-job, text-front}
+use Rattle.theorems.proofs.Verdicts.{refused-not-is, is-iff, eqb-iff, must-iff, then-iff, onward-is}
+use Rattle.theorems.proofs.TextJobs.{reading-iff, reading-job, text-front}
 use Rattle.theorems.proofs.Starts.{length-greedy, greedy-front}
 
 -- ---- the pieces of a text that ends where a piece does
@@ -24,15 +24,21 @@ use Rattle.theorems.proofs.Starts.{length-greedy, greedy-front}
 abbrev Ended : List (List ℕ) → List (List ℕ)
 Ended ps = ps ++ ([] ∷ [])
 
-split-some : (c : ℕ) (bs : List ℕ) → split c bs ≡ [] → ⊥
+-- there is a first piece
+abbrev HasFirst : List (List ℕ) → Type 0
+HasFirst pieces = (p : List ℕ) × (ps : List (List ℕ)) × (pieces ≡ p ∷ ps)
+
+split-first : (c : ℕ) (bs : List ℕ) → HasFirst (split c bs)
 unfolding split
-split-some c [] e = cons≢nil e
-split-some c (b ∷ bs) e = go (eqb b c) (split c bs) e (split-some c bs)
+split-first c [] = ([], [], refl)
+split-first c (b ∷ bs) = go (eqb b c) (split-first c bs)
   where
-    go : (t : Bool) (ps : List (List ℕ)) → pick t ([] ∷ ps) (onto b ps) ≡ [] → (ps ≡ [] → ⊥) → ⊥
-    go true ps e h = cons≢nil e
-    go false [] e h = h refl
-    go false (p ∷ ps) e h = cons≢nil e
+    go : (t : Bool) → HasFirst (split c bs) → HasFirst (pick t ([] ∷ split c bs) (onto b (split c bs)))
+    go true r = ([], split c bs, refl)
+    go false (p, ps, e) = (b ∷ p, ps, rw e)
+
+split-some : (c : ℕ) (bs : List ℕ) → split c bs ≡ [] → ⊥
+split-some c bs e = cons≢nil (sym (split-first c bs .2) ∙ e)
 
 split-append : (c : ℕ) (xs ys : List ℕ) (ps : List (List ℕ)) → split c xs ≡ Ended ps → split c (xs ++ ys) ≡ ps ++ split c ys
 unfolding split
@@ -52,6 +58,16 @@ split-append c (b ∷ xs) ys ps e = go (eqb b c) (split c xs) refl ps e (split-a
     go false (p ∷ qs) q [] e r = absurd (cons≢nil (head-eq-of-cons-eq e))
     go false (p ∷ qs) q (s ∷ ps) e r = rw (r (p ∷ ps) (q ∙ ap (λ r. p ∷ r) (tail-eq-of-cons-eq e)), ← head-eq-of-cons-eq e)
 
+-- a byte ends the pieces of what stands before it
+split-ended : (c : ℕ) (bs : List ℕ) → split c (bs ++ (c ∷ [])) ≡ Ended (split c bs)
+unfolding split
+split-ended c [] = rw (eq-eqb c c refl)
+split-ended c (b ∷ bs) = rw (split-ended c bs) (go (eqb b c) (split-first c bs))
+  where
+    go : (t : Bool) → HasFirst (split c bs) → pick t ([] ∷ Ended (split c bs)) (onto b (Ended (split c bs))) ≡ Ended (pick t ([] ∷ split c bs) (onto b (split c bs)))
+    go true r = refl
+    go false (p, ps, e) = rw e
+
 -- ---- lines are read one after another
 
 -- a list of pieces is read if there is a first one
@@ -64,77 +80,89 @@ unfolding withLines
 read-cons n j p [] q qs = refl
 read-cons n j p (r ∷ ps) q qs = refl
 
--- accepted lines are ended, and whatever follows them goes on from the job they say
-record Lines (n : ℕ) (j : Job) (p : List ℕ) (ps : List (List ℕ)) (k : Job) : Type 0 where
-  whole : List (List ℕ)
-  next : ℕ
-  ended : p ∷ ps ≡ Ended whole
-  onwards : (q : List ℕ) (qs : List (List ℕ)) → read n j (whole ++ q ∷ qs) ≡ withLines next k q qs
+all-cons : (p : List ℕ) (ps : List (List ℕ)) (q : List ℕ) (qs : List (List ℕ)) → allLines (p ∷ (ps ++ q ∷ qs)) ≡ onward (firstLine (lineOf p)) (λ k. read 2 k (ps ++ q ∷ qs))
+all-cons p [] q qs = refl
+all-cons p (r ∷ ps) q qs = refl
 
-lines-of : (n : ℕ) (j : Job) (p : List ℕ) (ps : List (List ℕ)) (k : Job) → withLines n j p ps ≡ is k → Lines n j p ps k
+-- what follows some lines is read from the job that they say, if they say one
+read-append : (ps : List (List ℕ)) (o : Outcome Job) (n m : ℕ) (q : List ℕ) (qs : List (List ℕ)) → n + length ps ≡ m → onward o (λ j. read n j (ps ++ q ∷ qs)) ≡ onward (onward o (λ j. read n j (Ended ps))) (λ j. withLines m j q qs)
 unfolding withLines
-lines-of n j p [] k e =
-    let (empty, same) = then-iff (must-iff 2 n (eqb-iff (length p) 0)) is-iff .0 e in
-    record { whole = []; next = n; ended = ap (λ (q : List ℕ). q ∷ []) (no-length p empty); onwards = λ q qs. rw same }
+read-append [] (refused number place) n m q qs e = refl
+read-append [] (is j) n m q qs e = let same : m ≡ n = omega arith in rw same
+read-append (p ∷ ps) (refused number place) n m q qs e = refl
+read-append (p ∷ ps) (is j) n m q qs e =
+    rw (read-cons n j p ps q qs, read-cons n j p ps [] []) (read-append ps (withLine n j (lineOf p)) (suc n) m q qs (omega arith))
+
+all-append : (p : List ℕ) (ps : List (List ℕ)) (q : List ℕ) (qs : List (List ℕ)) → allLines (p ∷ (ps ++ q ∷ qs)) ≡ onward (allLines (p ∷ Ended ps)) (λ j. withLines (2 + length ps) j q qs)
+all-append p ps q qs = rw (all-cons p ps q qs, all-cons p ps [] []) (read-append ps (firstLine (lineOf p)) 2 (2 + length ps) q qs refl)
+
+-- ---- texts of whole lines
+
+-- a line or more, each ended, and nothing left
+abbrev Whole : List (List ℕ) → Type 0
+Whole pieces = (p : List ℕ) × (ps : List (List ℕ)) × (pieces ≡ p ∷ Ended ps)
+
+lines-ended : (n : ℕ) (j : Job) (p : List ℕ) (ps : List (List ℕ)) (k : Job) → withLines n j p ps ≡ is k → (qs : List (List ℕ)) × (p ∷ ps ≡ Ended qs)
+unfolding withLines
+lines-ended n j p [] k e = ([], ap (λ (q : List ℕ). q ∷ []) (no-length p (then-iff (must-iff 2 n (eqb-iff (length p) 0)) is-iff .0 e .0)))
   where
     no-length : (p : List ℕ) → length p ≡ 0 → p ≡ []
     no-length [] e = refl
     no-length (b ∷ bs) e = absurd (omega arith)
-lines-of n j p (q ∷ ps) k e =
+lines-ended n j p (q ∷ ps) k e =
     let (i, a, b) = onward-is (withLine n j (lineOf p)) (λ i. withLines (suc n) i q ps) e in
-    let r = lines-of (suc n) i q ps k b in
-    record {
-      whole = p ∷ r .whole;
-      next = r .next;
-      ended = ap (λ (qs : List (List ℕ)). p ∷ qs) (r .ended);
-      onwards = λ s ss. read-cons n j p (r .whole) s ss ∙ onward-of a _ ∙ r .onwards s ss;
-    }
+    let (qs, r) = lines-ended (suc n) i q ps k b in
+    (p ∷ qs, ap (λ (qs : List (List ℕ)). p ∷ qs) r)
 
-lines-accepted : (text : List ℕ) (j : Job) → reading text ≡ is j → allLines (split lineFeed text) ≡ is j
-unfolding reading
-lines-accepted text j e = then-is-iff (must (leb (length text) textMost) 1 0) (allLines (split lineFeed text)) j .0 e .1
+-- accepted lines are whole
+accepted-whole : (pieces : List (List ℕ)) (j : Job) → allLines pieces ≡ is j → Whole pieces
+accepted-whole [] j e = absurd (refused-not-is e)
+accepted-whole (p ∷ []) j e = absurd (refused-not-is e)
+accepted-whole (p ∷ q ∷ ps) j e =
+    let (i, a, b) = onward-is (firstLine (lineOf p)) (λ i. withLines 2 i q ps) e in
+    let (qs, r) = lines-ended 2 i q ps j b in
+    (p, qs, ap (λ (qs : List (List ℕ)). p ∷ qs) r)
 
--- what an accepted text ends in goes on with whatever follows
-record Text (text : List ℕ) (j : Job) : Type 0 where
-  whole : List (List ℕ)
-  next : ℕ
-  ended : split lineFeed text ≡ Ended whole
-  onwards : (q : List ℕ) (qs : List (List ℕ)) → allLines (whole ++ q ∷ qs) ≡ withLines next j q qs
+-- a text whose last byte is a line feed is one of whole lines
+feed-whole : (f : List ℕ) → Whole (split lineFeed (f ++ (lineFeed ∷ [])))
+feed-whole f = let (p, ps, e) = split-first lineFeed f in (p, ps, rw (split-ended lineFeed f, e))
 
-text-of : (text : List ℕ) (j : Job) → reading text ≡ is j → Text text j
-text-of text j e = go (split lineFeed text) refl (lines-accepted text j e)
-  where
-    all-cons : (p : List ℕ) (ps : List (List ℕ)) (q : List ℕ) (qs : List (List ℕ)) → allLines (p ∷ (ps ++ q ∷ qs)) ≡ onward (firstLine (lineOf p)) (λ k. read 2 k (ps ++ q ∷ qs))
-    all-cons p [] q qs = refl
-    all-cons p (r ∷ ps) q qs = refl
+-- the job of a text's front, and its packets in front of those of the whole text
+record Front (front : List ℕ) (j : Job) : Type 0 where
+  job : Job
+  says : reading front ≡ is job
+  packets : take (length (paths job)) (paths j) ≡ paths job
 
-    go : (ps : List (List ℕ)) → split lineFeed text ≡ ps → allLines ps ≡ is j → Text text j
-    go [] s e = absurd (refused-not-is e)
-    go (p ∷ []) s e = absurd (refused-not-is e)
-    go (p ∷ q ∷ ps) s e =
-        let (i, a, b) = onward-is (firstLine (lineOf p)) (λ i. withLines 2 i q ps) e in
-        let r = lines-of 2 i q ps j b in
-        record {
-          whole = p ∷ r .whole;
-          next = r .next;
-          ended = s ∙ ap (λ (qs : List (List ℕ)). p ∷ qs) (r .ended);
-          onwards = λ t ts. all-cons p (r .whole) t ts ∙ onward-of a _ ∙ r .onwards t ts;
-        }
+front-of : (front more : List ℕ) (j : Job) → Whole (split lineFeed front) → reading (front ++ more) ≡ is j → Front front j
+front-of front more j (p, ps, whole) e =
+    let (q, qs, first) = split-first lineFeed more in
+    let pieces : split lineFeed (front ++ more) ≡ p ∷ (ps ++ q ∷ qs) = split-append lineFeed front more (p ∷ ps) whole ∙ ap (λ (qs : List (List ℕ)). p ∷ (ps ++ qs)) first in
+    let (short, lines) = reading-iff (front ++ more) j .0 e in
+    let (i, read, on) = onward-is (allLines (p ∷ Ended ps)) _ (sym (all-append p ps q qs) ∙ (rw pieces at lines)) in
+    let says = reading-iff front i .1 (omega (arith, length-append front more), rw whole read) in
+    record { job = i; says = says; packets = text-front (2 + length ps) i q qs j (reading-job front i says) on }
+
+-- ---- what a text goes on with moves nothing
+
+-- the front of an accepted text, cut after a line, is accepted
+pub reading-front : (front f more : List ℕ) (j : Job) → front ≡ f ++ (lineFeed ∷ []) → reading (front ++ more) ≡ is j → (i : Job) × (reading front ≡ is i)
+reading-front front f more j last e = let r = front-of front more j (rw last (feed-whole f)) e in (r .job, r .says)
 
 -- an accepted text that begins with an accepted text has its packets in front
 pub paths-of-front : (front more : List ℕ) (i j : Job) → reading front ≡ is i → reading (front ++ more) ≡ is j → take (length (paths i)) (paths j) ≡ paths i
-paths-of-front front more i j e f = go (split lineFeed more) refl
-  where
-    t : Text front i
-    t = text-of front i e
-
-    go : (ps : List (List ℕ)) → split lineFeed more ≡ ps → take (length (paths i)) (paths j) ≡ paths i
-    go [] s = absurd (split-some lineFeed more s)
-    go (p ∷ ps) s =
-        let lines : split lineFeed (front ++ more) ≡ t .whole ++ p ∷ ps = split-append lineFeed front more (t .whole) (t .ended) ∙ ap (λ (qs : List (List ℕ)). t .whole ++ qs) s in
-        text-front (t .next) i p ps j (reading-job front i e) (sym (t .onwards p ps) ∙ (rw lines at (lines-accepted (front ++ more) j f)))
+paths-of-front front more i j e f =
+    let r = front-of front more j (accepted-whole _ i (reading-iff front i .0 e .1)) f in
+    let same : r .job ≡ i = is-iff .0 (sym (r .says) ∙ e) in
+    rw (← same) (r .packets)
 
 -- and gives them the starts that they have alone
 pub starts-of-front : (front more : List ℕ) (i j : Job) → reading front ≡ is i → reading (front ++ more) ≡ is j → take (length (greedy i)) (greedy j) ≡ greedy i
 starts-of-front front more i j e f =
     rw (length-greedy i) (greedy-front j i (length (paths i)) (paths-of-front front more i j e f ∙ sym (take-length (paths i))) ∙ take-all (length (paths i)) (greedy i) (omega (arith, length-greedy i)))
+
+-- so two accepted texts with one front, cut after a line, give its packets the same starts
+pub starts-of-common-front : (front f more other : List ℕ) (j k : Job) → front ≡ f ++ (lineFeed ∷ []) → reading (front ++ more) ≡ is j → reading (front ++ other) ≡ is k
+    → (i : Job) × (reading front ≡ is i) × (take (length (greedy i)) (greedy j) ≡ greedy i) × (take (length (greedy i)) (greedy k) ≡ greedy i)
+starts-of-common-front front f more other j k last a b =
+    let (i, e) = reading-front front f more j last a in
+    (i, e, starts-of-front front more i j e a, starts-of-front front other i k e b)

@@ -3,21 +3,20 @@
 use mathlib.Core.Path.{_≡_, refl, sym, _∙_}
 use mathlib.Core.Bool.{true}
 use mathlib.Core.List.{List, [], _∷_, _++_, append-nil, append-assoc}
-use mathlib.Core.Logic.{Iff·rfl}
+use mathlib.Core.Logic.{_↔_, Iff·rfl}
 use Prim.Native.Nat.{ℕ, suc, _+_, _≤_, _<_}
 use native.Mathlib.Omega.{arith}
-use lib.Dec.{leb}
 use lib.ListN.{length, take, length-append}
 use lib.Seq.{take-append-seam, take-append-add, take-append-le, take-length, drop-at}
 use Rattle.counting.proofs.Places.{none-not-some, at-below}
 use Rattle.rules.specs.Sizes.{textMost, nodesMost, linksMost, packetsMost, hopsMost}
 use Rattle.rules.specs.Network.{Job, pathsFrom, paths}
-use Rattle.rules.specs.Outcome.{is, fine, must}
+use Rattle.rules.specs.Outcome.{is, fine}
 use Rattle.rules.specs.Tables.{stopsAgree, tables}
 use Rattle.rules.specs.Bytes.{lineFeed, split}
 use Rattle.rules.specs.JobText.{Line, nodes, link, packet, bad, lineOf, blank, withLink, withPacket, withLine, withLines, firstLine, allLines, reading}
 use Rattle.theorems.specs.Jobs.{IsLink, IsPacket, IsJob}
-use Rattle.theorems.proofs.Verdicts.{leb-iff, eqb-iff, and-iff, is-iff, refused-not-is, onward-is, must-iff, then-is-iff, then-iff}
+use Rattle.theorems.proofs.Verdicts.{leb-iff, eqb-iff, and-iff, is-iff, refused-not-is, onward-is, must-iff, then-iff}
 use Rattle.theorems.proofs.Accepted.{at-each-snoc, stops-agree-iff, link-fine-iff, packet-fine-iff, tables-fine-iff, job-stops-agree, length-paths, hops-from}
 
 -- one more stop, at the new end of the hops
@@ -141,11 +140,12 @@ all-lines-job (p ∷ q ∷ ps) j e =
     let (i, a, b) = onward-is (firstLine (lineOf p)) (λ i. withLines 2 i q ps) e in
     goes-on-lines 2 q ps i j (first-job (lineOf p) i a) b .job
 
-pub reading-job : (text : List ℕ) (j : Job) → reading text ≡ is j → IsJob j
+pub reading-iff : (text : List ℕ) (j : Job) → (reading text ≡ is j) ↔ ((length text ≤ textMost) × (allLines (split lineFeed text) ≡ is j))
 unfolding reading
-reading-job text j e =
-    let lines = split lineFeed text in
-    all-lines-job lines j (then-is-iff (must (leb (length text) textMost) 1 0) (allLines lines) j .0 e .1)
+reading-iff text j = then-iff (must-iff 1 0 (leb-iff (length text) textMost)) Iff·rfl
+
+pub reading-job : (text : List ℕ) (j : Job) → reading text ≡ is j → IsJob j
+reading-job text j e = all-lines-job (split lineFeed text) j (reading-iff text j .0 e .1)
 
 pub reading-accepted : (text : List ℕ) (j : Job) → reading text ≡ is j → tables j ≡ fine
 reading-accepted text j e = tables-fine-iff j .1 (reading-job text j e)
