@@ -46,10 +46,6 @@ module _ {A : Type 0} where
       go true h r = h
       go false h r = omega (arith, r (omega arith))
 
-  pub any-le-sum : (f : A → Bool) (xs : List A) → bit (anyOf f xs) ≤ sumOf (λ x. bit (f x)) xs
-  any-le-sum f [] = omega arith
-  any-le-sum f (x ∷ xs) = omega (arith, bit-or (f x) (anyOf f xs), any-le-sum f xs)
-
   pub le-max : (f : A → ℕ) {x : A} {xs : List A} → List·Memᴰ x xs → f x ≤ maxOf f xs
   le-max f (here e) = omega (arith, ap f e)
   le-max f (there m) = omega (arith, le-max f m)

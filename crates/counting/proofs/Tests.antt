@@ -1,12 +1,10 @@
--- Laws of tests: of two tests, of one over a list, and of `pick`.
+-- Laws of tests: of two tests, and of one over a list.
 use mathlib.Core.Path.{_≡_, refl, sym, _∙_}
-use mathlib.Core.Bool.{Bool, true, false, _&&_, _||_, or-true, or-false, or-assoc, false≢true, true≢false}
+use mathlib.Core.Bool.{Bool, true, false, _&&_, _||_, or-true, or-assoc, false≢true, true≢false}
 use mathlib.Core.List.{List, [], _∷_, _++_, List·Memᴰ, List·Memᴰ·head as here, List·Memᴰ·tail as there}
-use Prim.Native.Nat.{ℕ, suc, _<_}
+use Prim.Native.Nat.{ℕ}
 use lib.Dec.{eqb}
-use lib.ListN.{length, getD, take}
 use borrow.Author.Tests.{eqb-true, eq-eqb}
-use lib.Seq.{take-suc}
 use Rattle.counting.specs.Count.{anyOf}
 
 -- a test that is true and false proves anything
@@ -16,10 +14,6 @@ never-both b p q = true≢false (sym p ∙ q)
 pub false-of-not-true : (b : Bool) → (b ≡ true → ⊥) → b ≡ false
 false-of-not-true true h = absurd (h refl)
 false-of-not-true false h = refl
-
-pub true-of-not-false : (b : Bool) → (b ≡ false → ⊥) → b ≡ true
-true-of-not-false true h = refl
-true-of-not-false false h = absurd (h refl)
 
 pub same-of-iff : (a b : Bool) → (a ≡ true → b ≡ true) → (b ≡ true → a ≡ true) → a ≡ b
 same-of-iff true b f g = sym (f refl)
@@ -68,10 +62,6 @@ module _ {A : Type 0} where
   pub any-append : (f : A → Bool) (xs ys : List A) → anyOf f (xs ++ ys) ≡ (anyOf f xs || anyOf f ys)
   any-append f [] ys = refl
   any-append f (x ∷ xs) ys = rw (any-append f xs ys, or-assoc)
-
-  -- one more element looked at
-  pub any-take-suc : (f : A → Bool) (xs : List A) (i : ℕ) (d : A) → i < length xs → anyOf f (take (suc i) xs) ≡ (anyOf f (take i xs) || f (getD xs i d))
-  any-take-suc f xs i d l = rw (take-suc xs i d, any-append, or-false)
 
 module _ {A B : Type 0} where
   any-turn : (f : A → B → Bool) (xs : List A) (ys : List B) → anyOf (λ x. anyOf (f x) ys) xs ≡ true → anyOf (λ y. anyOf (λ x. f x y) xs) ys ≡ true

@@ -82,10 +82,10 @@ end-bound C D s zero a b z = omega (arith, mul-le-mul-left (pred C) b)
 end-bound zero D s (suc h) a b z = omega (arith, z (omega arith))
 end-bound (suc C) D s (suc h) a b z = omega (arith, mul-le-mul-left (suc C) b)
 
-pub end-le-product : (n : ℕ) (ts : List ℕ) (ps : List (List ℕ)) (k : ℕ) (p : List ℕ) (s : ℕ) → ((q : List ℕ) → List·Memᴰ q ps → Simple n q) → getElem? ps k ≡ some p → FirstFree (onPaths ts (take k ps)) (linkClaims 0 p) s
+pub first-free-end-le-product : (n : ℕ) (ts : List ℕ) (ps : List (List ℕ)) (k : ℕ) (p : List ℕ) (s : ℕ) → ((q : List ℕ) → List·Memᴰ q ps → Simple n q) → getElem? ps k ≡ some p → FirstFree (onPaths ts (take k ps)) (linkClaims 0 p) s
     → endOf s p ≤ maxBelow (λ l. load l ps) n * maxOf (λ q. length q) ps
 unfolding endOf load
-end-le-product n ts ps k p s simple e h =
+first-free-end-le-product n ts ps k p s simple e h =
     end-bound C (maxOf (λ q. length q) ps) s (length p)
     (omega (
       arith,

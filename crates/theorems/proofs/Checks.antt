@@ -13,7 +13,7 @@ use Rattle.rules.specs.Check.{Clash, clashAfter}
 use Rattle.rules.specs.Plain.{Enters, EntersAt, ConflictAt, Shown}
 use Rattle.theorems.proofs.Conflicts.{link-claim-at, at-link-claim, takes-iff}
 use Rattle.theorems.proofs.OnPaths.{onPaths, on-paths-at, on-paths-split}
-use Rattle.theorems.proofs.Clashes.{Holds, Meet, Seen, clash-seen, clear-iff-no-meet}
+use Rattle.theorems.proofs.Clashes.{Holds, ConflictOn, Seen, clash-seen, clear-iff-no-conflict}
 
 module _ (ps : List (List ℕ)) (ss : List ℕ) where
   -- a packet that holds a link in a step enters it then
@@ -31,16 +31,16 @@ module _ (ps : List (List ℕ)) (ss : List ℕ) where
   enters-holds : {k l t : ℕ} → EntersAt ps ss k l t → Holds (onPaths ss ps) l t k
   enters-holds {k} e = (place (e .start) (linkClaims 0 (e .path)), on-paths-at ss ps k (e .is-start) (e .is-path), takes-iff _ _ _ _ .1 (e .enters))
 
-  meet-conflict : {k e l t : ℕ} → Meet (onPaths ss ps) k e l t → ConflictAt ps ss k e l t
-  meet-conflict (before, later, earlier) = record { before = before; later = holds-enters later; earlier = holds-enters earlier }
+  conflict-enters : {k e l t : ℕ} → ConflictOn (onPaths ss ps) k e l t → ConflictAt ps ss k e l t
+  conflict-enters (before, later, earlier) = record { before = before; later = holds-enters later; earlier = holds-enters earlier }
 
-  conflict-meet : {k e l t : ℕ} → ConflictAt ps ss k e l t → Meet (onPaths ss ps) k e l t
-  conflict-meet c = (c .before, enters-holds (c .later), enters-holds (c .earlier))
+  enters-conflict : {k e l t : ℕ} → ConflictAt ps ss k e l t → ConflictOn (onPaths ss ps) k e l t
+  enters-conflict c = (c .before, enters-holds (c .later), enters-holds (c .earlier))
 
   pub check-clear-iff : (clashAfter [] (onPaths ss ps) ≡ none) ↔ ((k e link step : ℕ) → ConflictAt ps ss k e link step → ⊥)
   check-clear-iff = (
-    λ q k e l t c. clear-iff-no-meet _ .0 q k e l t (conflict-meet c),
-    λ f. clear-iff-no-meet _ .1 (λ k e l t m. f k e l t (meet-conflict m)),
+    λ q k e l t c. clear-iff-no-conflict _ .0 q k e l t (enters-conflict c),
+    λ f. clear-iff-no-conflict _ .1 (λ k e l t m. f k e l t (conflict-enters m)),
   )
 
   -- the first taken claim of a path is its earliest
@@ -54,7 +54,7 @@ module _ (ps : List (List ℕ)) (ss : List ℕ) where
       omega (
         arith,
         at-link-claim 0 (k .path) (s .at) (rw same at (s .is-claim)),
-        s .first n (record { resource = l; offset = n }) e claim (rw (start, k .enters .then-step) (conflict-meet c)),
+        s .first n (record { resource = l; offset = n }) e claim (rw (start, k .enters .then-step) (enters-conflict c)),
         k .enters .then-step,
       )
 
@@ -62,10 +62,10 @@ module _ (ps : List (List ℕ)) (ss : List ℕ) where
   check-shows x q =
       let s = clash-seen _ q in
       record {
-        true-conflict = meet-conflict (s .meet);
-        lowest = λ k e l t c. s .lowest k e l t (conflict-meet c);
+        true-conflict = conflict-enters (s .conflict);
+        lowest = λ k e l t c. s .lowest k e l t (enters-conflict c);
         first-hop = λ e l t c. earliest s c;
-        lowest-there = λ e c. s .lowest-there e (conflict-meet c);
+        lowest-there = λ e c. s .lowest-there e (enters-conflict c);
       }
 
 -- in one step a packet enters one link at most

@@ -1,5 +1,5 @@
--- What the check finds among placed packets, whatever they claim: the lowest packet that meets one before it, at its first
--- taken claim, with the lowest packet that takes it; and nothing exactly if no two packets meet.
+-- What the check finds among placed packets, whatever they claim: the lowest packet that conflicts with one before it, at its
+-- first taken claim, with the lowest packet that takes it; and nothing exactly if no two packets conflict.
 use mathlib.Core.Path.{_≡_, refl, sym, ap, _∙_, subst}
 use mathlib.Core.Bool.{Bool, true, false, _||_}
 use mathlib.Core.List.{List, [], _∷_, _++_, append-assoc, List·Memᴰ}
@@ -115,32 +115,32 @@ clash-of-first k before s (c ∷ cs) {x} q = go (holder 0 before r t) refl q (cl
     go none p q rest = let l = rest q in (suc (l .0), l .1, l .2, l .3, above-suc (TakenClaim before s (c ∷ cs)) (free p) (l .4))
 
 -- packet k and packet e, listed before it, take the resource in the step
-abbrev pub Meet : List Placed → ℕ → ℕ → ℕ → ℕ → Type 0
-Meet bs k e resource step = (e < k) × Holds bs resource step k × Holds bs resource step e
+abbrev pub ConflictOn : List Placed → ℕ → ℕ → ℕ → ℕ → Type 0
+ConflictOn bs k e resource step = (e < k) × Holds bs resource step k × Holds bs resource step e
 
--- the packet met is among those before packet k
-met-before : (bs : List Placed) (k e r t : ℕ) (m : Meet bs k e r t) → List·Memᴰ (m .2 .0) (take k bs)
-met-before bs k e r t m = at-mem (take k bs) e (at-take bs k e (m .0) ∙ m .2 .1)
+-- that packet is among those before packet k
+conflict-before : (bs : List Placed) (k e r t : ℕ) (m : ConflictOn bs k e r t) → List·Memᴰ (m .2 .0) (take k bs)
+conflict-before bs k e r t m = at-mem (take k bs) e (at-take bs k e (m .0) ∙ m .2 .1)
 
-meet-blocked : (bs : List Placed) (k e r t : ℕ) {b : Placed} → getElem? bs k ≡ some b → Meet bs k e r t → blocked (take k bs) (b .claimed) (b .start) ≡ true
+conflict-blocked : (bs : List Placed) (k e r t : ℕ) {b : Placed} → getElem? bs k ≡ some b → ConflictOn bs k e r t → blocked (take k bs) (b .claimed) (b .start) ≡ true
 unfolding blocked
-meet-blocked bs k e r t q m =
-    any-mem _ (met-before bs k e r t m) (conflict-iff-both-take _ _ .1 (r, t, rw (some-same (sym q ∙ m .1 .1)) (m .1 .2), m .2 .2))
+conflict-blocked bs k e r t q m =
+    any-mem _ (conflict-before bs k e r t m) (conflict-iff-both-take _ _ .1 (r, t, rw (some-same (sym q ∙ m .1 .1)) (m .1 .2), m .2 .2))
 
--- packet k meets one before it
-abbrev Meets : List Placed → ℕ → Type 0
-Meets bs k = (e r t : ℕ) × Meet bs k e r t
+-- packet k conflicts with one before it
+abbrev Conflicting : List Placed → ℕ → Type 0
+Conflicting bs k = (e r t : ℕ) × ConflictOn bs k e r t
 
--- the clash of the lowest packet from n on that meets one before it
+-- the clash of the lowest packet from n on that conflicts with one before it
 abbrev Lowest : List Placed → ℕ → Option Clash → Type 0
-Lowest bs n none = (k : ℕ) → n ≤ k → Meets bs k → ⊥
-Lowest bs n (some x) = (k : ℕ) × (b : Placed) × (getElem? bs k ≡ some b) × (clashOf k (take k bs) (b .start) (b .claimed) ≡ some x) × ((m : ℕ) → n ≤ m → Meets bs m → k ≤ m)
+Lowest bs n none = (k : ℕ) → n ≤ k → Conflicting bs k → ⊥
+Lowest bs n (some x) = (k : ℕ) × (b : Placed) × (getElem? bs k ≡ some b) × (clashOf k (take k bs) (b .start) (b .claimed) ≡ some x) × ((m : ℕ) → n ≤ m → Conflicting bs m → k ≤ m)
 
--- past packet n, which meets none
-lowest-past : (bs : List Placed) (n : ℕ) (o : Option Clash) → (Meets bs n → ⊥) → Lowest bs (suc n) o → Lowest bs n o
+-- past packet n, which conflicts with none
+lowest-past : (bs : List Placed) (n : ℕ) (o : Option Clash) → (Conflicting bs n → ⊥) → Lowest bs (suc n) o → Lowest bs n o
 lowest-past bs n o alone = go o
   where
-    next : (k : ℕ) → n ≤ k → Meets bs k → suc n ≤ k
+    next : (k : ℕ) → n ≤ k → Conflicting bs k → suc n ≤ k
     next k l m = let other : n ≢ k = λ q. alone (rw q m) in omega arith
 
     go : (o : Option Clash) → Lowest bs (suc n) o → Lowest bs n o
@@ -165,17 +165,17 @@ clash-after bs before (b ∷ rest) e =
     is-before : take n bs ≡ before
     is-before = rw (← e) (take-append-seam before (b ∷ rest))
 
-    alone : clashOf n before (b .start) (b .claimed) ≡ none → Meets bs n → ⊥
+    alone : clashOf n before (b .start) (b .claimed) ≡ none → Conflicting bs n → ⊥
     alone q m =
-        let stopped = rw is-before at (meet-blocked bs n (m .0) (m .1) (m .2) is-b (m .3)) in
+        let stopped = rw is-before at (conflict-blocked bs n (m .0) (m .1) (m .2) is-b (m .3)) in
         never-none _ (found-clash-of n before (b .start) (b .claimed)) stopped q
 
     go : (o : Option Clash) → clashOf n before (b .start) (b .claimed) ≡ o → Lowest bs (suc n) (clashAfter (before ++ b ∷ []) rest) → Lowest bs n (orElse o (clashAfter (before ++ b ∷ []) rest))
     go (some x) q r = (n, b, is-b, rw is-before q, λ m l z. l)
     go none q r = lowest-past bs n (clashAfter (before ++ b ∷ []) rest) (alone q) r
 
--- the clash that the check shows: of the lowest packet that meets one before it, at its first taken claim, with the lowest
--- packet that takes it
+-- the clash that the check shows: of the lowest packet that conflicts with one before it, at its first taken claim, with the
+-- lowest packet that takes it
 pub record Seen (bs : List Placed) (x : Clash) : Type 0 where
   pub packet : Placed
   pub at : ℕ
@@ -184,12 +184,12 @@ pub record Seen (bs : List Placed) (x : Clash) : Type 0 where
   pub is-claim : getElem? (packet .claimed) at ≡ some claim
   pub is-resource : claim .resource ≡ x .resource
   pub is-step : packet .start + claim .offset ≡ x .step
-  pub meet : Meet bs (x .later) (x .earlier) (x .resource) (x .step)
-  pub lowest : (k e r t : ℕ) → Meet bs k e r t → x .later ≤ k
-  pub first : (h : ℕ) (c : Claim) (e : ℕ) → getElem? (packet .claimed) h ≡ some c → Meet bs (x .later) e (c .resource) (packet .start + c .offset) → at ≤ h
-  pub lowest-there : (e : ℕ) → Meet bs (x .later) e (x .resource) (x .step) → x .earlier ≤ e
+  pub conflict : ConflictOn bs (x .later) (x .earlier) (x .resource) (x .step)
+  pub lowest : (k e r t : ℕ) → ConflictOn bs k e r t → x .later ≤ k
+  pub first : (h : ℕ) (c : Claim) (e : ℕ) → getElem? (packet .claimed) h ≡ some c → ConflictOn bs (x .later) e (c .resource) (packet .start + c .offset) → at ≤ h
+  pub lowest-there : (e : ℕ) → ConflictOn bs (x .later) e (x .resource) (x .step) → x .earlier ≤ e
 
-seen : (bs : List Placed) (k : ℕ) (b : Placed) {x : Clash} → getElem? bs k ≡ some b → FirstClash k (take k bs) (b .start) (b .claimed) x → ((m : ℕ) → 0 ≤ m → Meets bs m → k ≤ m) → Seen bs x
+seen : (bs : List Placed) (k : ℕ) (b : Placed) {x : Clash} → getElem? bs k ≡ some b → FirstClash k (take k bs) (b .start) (b .claimed) x → ((m : ℕ) → 0 ≤ m → Conflicting bs m → k ≤ m) → Seen bs x
 unfolding taken
 seen bs k b q o lowest =
     let (at, c, is-c, clash, first) = o in
@@ -205,9 +205,9 @@ seen bs k b q o lowest =
       is-claim = is-c;
       is-resource = refl;
       is-step = refl;
-      meet = (l, (b, q, takes-iff-claim b r t .1 (c, at-mem _ at is-c, refl, refl)), rw (at-take bs k (clash .by) l) at (h .0));
+      conflict = (l, (b, q, takes-iff-claim b r t .1 (c, at-mem _ at is-c, refl, refl)), rw (at-take bs k (clash .by) l) at (h .0));
       lowest = λ m e r t z. lowest m (omega arith) (e, r, t, z);
-      first = λ m d e is-d z. first m (d, is-d, any-mem _ (met-before bs k e _ _ z) (z .2 .2));
+      first = λ m d e is-d z. first m (d, is-d, any-mem _ (conflict-before bs k e _ _ z) (z .2 .2));
       lowest-there = λ e z. h .1 e (rw (at-take bs k e (z .0)) (z .2));
     })
 
@@ -216,9 +216,9 @@ clash-seen bs {x} q =
     let f : Lowest bs 0 (some x) = rw q at (clash-after bs [] bs refl) in
     seen bs (f .0) (f .1) (f .2) (clash-of-first _ _ _ _ (f .3)) (f .4)
 
-pub clear-iff-no-meet : (bs : List Placed) → (clashAfter [] bs ≡ none) ↔ ((k e r t : ℕ) → Meet bs k e r t → ⊥)
-clear-iff-no-meet bs = (λ q k e r t m. (rw q at (clash-after bs [] bs refl)) k (omega arith) (e, r, t, m), go (clashAfter [] bs) refl)
+pub clear-iff-no-conflict : (bs : List Placed) → (clashAfter [] bs ≡ none) ↔ ((k e r t : ℕ) → ConflictOn bs k e r t → ⊥)
+clear-iff-no-conflict bs = (λ q k e r t m. (rw q at (clash-after bs [] bs refl)) k (omega arith) (e, r, t, m), go (clashAfter [] bs) refl)
   where
-    go : (o : Option Clash) → clashAfter [] bs ≡ o → ((k e r t : ℕ) → Meet bs k e r t → ⊥) → clashAfter [] bs ≡ none
+    go : (o : Option Clash) → clashAfter [] bs ≡ o → ((k e r t : ℕ) → ConflictOn bs k e r t → ⊥) → clashAfter [] bs ≡ none
     go none q f = q
-    go (some x) q f = absurd (f _ _ _ _ (clash-seen bs q .meet))
+    go (some x) q f = absurd (f _ _ _ _ (clash-seen bs q .conflict))

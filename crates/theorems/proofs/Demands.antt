@@ -20,7 +20,7 @@ use Rattle.theorems.proofs.Starts.{length-greedy, greedy-first}
 use Rattle.theorems.proofs.Paths.{path-links-exist, path-once}
 use Rattle.theorems.proofs.Accepted.{tables-fine-iff, hops-in-all, job-path}
 use Rattle.theorems.proofs.TextJobs.{reading-job}
-use Rattle.theorems.proofs.Bounds.{Simple, start-le-meetings-with, end-le-product, routing-time-le, meetings-at, meetings-le-hops, length-meetings-after, sum-take-le}
+use Rattle.theorems.proofs.Bounds.{Simple, start-le-meetings-with, first-free-end-le-product, routing-time-le, meetings-at, meetings-le-hops, length-meetings-after, sum-take-le}
 
 module _ (j : Job) (job : IsJob j) where
   -- every packet of the job is on a path
@@ -33,8 +33,8 @@ module _ (j : Job) (job : IsJob j) where
   start-first : (k s : ℕ) (p : List ℕ) → getElem? (greedy j) k ≡ some s → getElem? (paths j) k ≡ some p → FirstFree (onPaths (take k (greedy j)) (take k (paths j))) (linkClaims 0 p) s
   start-first k s p e f = rw take-placed at (greedy-first j k _ (on-paths-at (greedy j) (paths j) k e f))
 
-  start-le-met : (k s : ℕ) (p : List ℕ) → getElem? (greedy j) k ≡ some s → getElem? (paths j) k ≡ some p → s ≤ meetingsWith (linkCount j) (take k (paths j)) p
-  start-le-met k s p e f =
+  start-le-meetings-before : (k s : ℕ) (p : List ℕ) → getElem? (greedy j) k ≡ some s → getElem? (paths j) k ≡ some p → s ≤ meetingsWith (linkCount j) (take k (paths j)) p
+  start-le-meetings-before k s p e f =
       start-le-meetings-with (linkCount j) (take k (greedy j)) (take k (paths j)) p s (λ q m. packets-simple q (mem-take k (paths j) m))
       (packets-simple p (at-mem (paths j) k f)) (start-first k s p e f)
 
@@ -45,11 +45,11 @@ module _ (j : Job) (job : IsJob j) where
   unfolding meetings congestion dilation
   job-bounded = record {
     meetings-count = length-meetings-after (linkCount j) [] (paths j);
-    start-le-meetings = λ k s m e f. rw (meetings-at (linkCount j) [] (paths j) k f (path-of k s e)) at (start-le-met k s _ e (path-of k s e));
+    start-le-meetings = λ k s m e f. rw (meetings-at (linkCount j) [] (paths j) k f (path-of k s e)) at (start-le-meetings-before k s _ e (path-of k s e));
     start-le-most = λ k s e.
         omega (
           arith,
-          start-le-met k s _ e (path-of k s e),
+          start-le-meetings-before k s _ e (path-of k s e),
           meetings-le-hops (linkCount j) (take k (paths j)) (getD (paths j) k []),
           sum-take-le (λ q. length q) k (paths j),
           hops-in-all j job,
@@ -60,7 +60,7 @@ module _ (j : Job) (job : IsJob j) where
   }
     where
       ends : (k s : ℕ) (p : List ℕ) → getElem? (greedy j) k ≡ some s → getElem? (paths j) k ≡ some p → endOf s p ≤ congestion j * dilation j
-      ends k s p e f = end-le-product (linkCount j) (take k (greedy j)) (paths j) k p s packets-simple f (start-first k s p e f)
+      ends k s p e f = first-free-end-le-product (linkCount j) (take k (greedy j)) (paths j) k p s packets-simple f (start-first k s p e f)
 
 pub tables-bounded : (j : Job) → tables j ≡ fine → Bounded j
 tables-bounded j e = job-bounded j (tables-fine-iff j .0 e)

@@ -1,15 +1,13 @@
--- The greedy starts over claims: each the first free step after those before it, no other list is so, later packets move
--- nothing, and no two placed so conflict.
-use mathlib.Core.Path.{_≡_, refl, ap, ap₂, _∙_}
-use mathlib.Core.Bool.{false}
+-- The greedy starts over claims: each the first free step after those before it, no other list is so, and later packets move
+-- nothing.
+use mathlib.Core.Path.{_≡_, refl, ap, ap₂}
 use mathlib.Core.List.{List, [], _∷_, _++_, append-nil, append-assoc}
 use mathlib.Core.Option.{some}
-use Prim.Native.Nat.{ℕ, zero, suc, _<_}
+use Prim.Native.Nat.{ℕ, zero, suc}
 use native.Mathlib.Omega.{arith}
 use lib.ListN.{length, take, getElem?}
-use Rattle.counting.proofs.Tests.{any-mem, false-of-not-true, never-both}
-use Rattle.counting.proofs.Places.{some-same, none-not-some, at-mem, at-take}
-use Rattle.rules.specs.Claims.{Claim, Placed, place, placed, conflict, blocked}
+use Rattle.counting.proofs.Places.{some-same, none-not-some}
+use Rattle.rules.specs.Claims.{Claim, Placed, place, placed}
 use Rattle.rules.specs.Greedy.{FirstFree, firstFree, greedyAfter}
 use Rattle.theorems.proofs.FirstFrees.{first-free-is, first-free-unique}
 
@@ -56,10 +54,3 @@ unfolding greedyAfter
 greedy-take bs css zero = refl
 greedy-take bs [] (suc k) = refl
 greedy-take bs (cs ∷ css) (suc k) = ap {B = List ℕ} (λ r. firstFree bs cs ∷ r) (greedy-take (bs ++ (place (firstFree bs cs) cs ∷ [])) css k)
-
--- no packet so placed conflicts with one before it
-pub each-first-clear : (xs : List Placed) → EachFirst [] xs → (i k : ℕ) (a b : Placed) → i < k → getElem? xs i ≡ some a → getElem? xs k ≡ some b → conflict b a ≡ false
-unfolding blocked
-each-first-clear xs h i k a b l ea eb =
-    false-of-not-true (conflict b a) (λ e.
-    never-both (blocked (take k xs) (b .claimed) (b .start)) (any-mem (λ x. conflict b x) (at-mem (take k xs) i (at-take xs k i l ∙ ea)) e) (h k b eb .free))

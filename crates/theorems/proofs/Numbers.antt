@@ -162,6 +162,3 @@ number-read (b ∷ c ∷ bs) e =
 -- a field says a number exactly if it is that number as written
 pub number-iff : (f : List ℕ) (n : ℕ) → (numberOf f ≡ some n) ↔ ((n ≤ numberMost) × (f ≡ decimal n))
 number-iff f n = (number-read f, λ h. rw (h .1) (number-decimal n (h .0)))
-
-pub decimal-injective : (m n : ℕ) → m ≤ numberMost → n ≤ numberMost → decimal m ≡ decimal n → m ≡ n
-decimal-injective m n h l e = some-same (sym (number-decimal m h) ∙ ap numberOf e ∙ number-decimal n l)
