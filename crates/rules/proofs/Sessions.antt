@@ -12,7 +12,7 @@ use Rattle.rules.specs.Greedy.{scan, crossings, firstFree, greedyAfter, 
 use Rattle.rules.specs.Counts.{endOf, routingTime, load, congestion, dilation, shared, meetingsWith, meetingsAfter, meetings}
 use Rattle.rules.specs.Check.{Clash, holder, clashOf, clashAfter}
 use Rattle.rules.specs.Lead.{entryStep, entryAt, lead}
-use Rattle.rules.specs.Bytes.{letterN, letterL, letterP, letterR, letterS, letterT, digits, decimal, fieldsText, lineText, valueAfter, numberOf, numbersOf, split}
+use Rattle.rules.specs.Bytes.{letterN, letterL, letterP, letterS, letterT, digits, decimal, fieldsText, lineText, valueAfter, numberOf, numbersOf, split}
 use Rattle.rules.specs.JobText.{lineOf, withLine, withLines, reading}
 use Rattle.rules.specs.PlanText.{packetLines, planText}
 use Rattle.rules.specs.Answers.{startsVerdict, startedVerdict, checked, led, answer, printed, plans}
@@ -74,9 +74,6 @@ S packet start end = lineText letterS (packet ∷ start ∷ end ∷ [])
 abbrev T : ℕ → ℕ → ℕ → List ℕ
 T time c d = lineText letterT (time ∷ c ∷ d ∷ [])
 
-abbrev R : ℕ → ℕ → List ℕ
-R number line = lineText letterR (number ∷ line ∷ [])
-
 abbrev linksA : List ℕ
 linksA = N 4 ++ L 0 1 ++ L 1 2 ++ L 2 3
 
@@ -98,8 +95,8 @@ table =
     ∷ starts (N 2 ++ L 0 1 ++ P 0 (0 ∷ []) ++ P 0 (0 ∷ []) ++ P 0 (0 ∷ [])) (0 ∷ 1 ∷ 2 ∷ [])
     ∷ starts (linksA ++ P 0 (0 ∷ 1 ∷ []) ++ P 1 (1 ∷ []) ++ P 1 (1 ∷ [])) (0 ∷ 0 ∷ 2 ∷ [])
     ∷ starts (fiveLinks ++ P 0 (0 ∷ 3 ∷ 4 ∷ 2 ∷ []) ++ P 0 (0 ∷ 1 ∷ 2 ∷ [])) (0 ∷ 2 ∷ [])
-    ∷ prints (twoWay ++ P 0 (0 ∷ 1 ∷ [])) (R 8 4)
-    ∷ prints (twoWay ++ P 0 (1 ∷ [])) (R 7 4)
+    ∷ prints (twoWay ++ P 0 (0 ∷ 1 ∷ [])) (82 ∷ 9 ∷ 56 ∷ 9 ∷ 52 ∷ 10 ∷ [])
+    ∷ prints (twoWay ++ P 0 (1 ∷ [])) (82 ∷ 9 ∷ 55 ∷ 9 ∷ 52 ∷ 10 ∷ [])
     ∷ starts (twoWay ++ P 0 (0 ∷ []) ++ P 1 (1 ∷ [])) (0 ∷ 0 ∷ [])
     ∷ prints (N 1) (T 0 0 0)
     ∷ prints (N 1 ++ P 0 []) (S 0 0 0 ++ T 0 0 0)
