@@ -11,7 +11,8 @@ use Rattle.rules.specs.Check.{clashAfter}
 use Rattle.rules.specs.Lead.{leadOf, entryAt, lead}
 use Rattle.rules.specs.Answers.{startedVerdict, checked, led}
 use Rattle.theorems.proofs.OnPaths.{onPaths}
-use Rattle.theorems.proofs.Started.{IsStarted, started-fine-iff}
+use Rattle.theorems.specs.Jobs.{IsStarted}
+use Rattle.theorems.proofs.Started.{started-fine-iff}
 use Rattle.job.specs.declared.Refusal.{Refusal}
 use Rattle.job.specs.declared.Verdict.{Verdict}
 use Rattle.job.specs.declared.Verdict.the-variants.{Fine, Refused}

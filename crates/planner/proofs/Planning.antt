@@ -11,7 +11,8 @@ use Rattle.rules.specs.Claims.{claims}
 use Rattle.rules.specs.Counts.{linkCount}
 use Rattle.rules.specs.Greedy.{greedy}
 use Rattle.rules.specs.Answers.{lentAfter, planned}
-use Rattle.theorems.proofs.Accepted.{IsJob, tables-fine-iff}
+use Rattle.theorems.specs.Jobs.{IsJob}
+use Rattle.theorems.proofs.Accepted.{tables-fine-iff, job-stops-agree}
 use Rattle.theorems.proofs.Demands.{packets-simple}
 use Rattle.job.specs.declared.Refusal.{Refusal}
 use Rattle.job.specs.declared.Refusal.the-variants.{ShortRoom}
@@ -25,7 +26,7 @@ use Rattle.planner.proofs.Filling.{length-greedy-starts}
 
 pub job-listed : (j : Job) → IsJob j → Listed (j .stops) (j .hops)
 unfolding paths
-job-listed j h = record { agree = h .stops-agree; few = h .hops-most; links = linkCount j; simple = packets-simple j h }
+job-listed j h = record { agree = job-stops-agree j h; few = h .hops-most; links = linkCount j; simple = packets-simple j h }
 
 greedy-of-lists : (j : Job) → greedyStarts (j .stops) (j .hops) ≡ greedy j
 unfolding greedyStarts greedy claims paths

@@ -6,7 +6,7 @@ use lib.ListN.{length}
 use Rattle.counting.specs.Count.{pick}
 use Rattle.rules.specs.Claims.{Claim, Placed, takes}
 
--- packet `later` meets packet `earlier`, listed before it, on the resource (the link's number) in the step
+-- packet `later` conflicts with packet `earlier`, listed before it, on the resource (the link's number) in the step
 pub record Clash : Type 0 where
   pub later : ℕ
   pub earlier : ℕ

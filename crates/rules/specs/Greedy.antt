@@ -9,7 +9,7 @@ use Rattle.counting.specs.Count.{bit, sumOf}
 use Rattle.rules.specs.Network.{Job}
 use Rattle.rules.specs.Claims.{Claim, claims, Placed, place, blocked}
 
--- started at s the claims meet none of those placed, and at every smaller step they meet one
+-- started at s the claims conflict with none of those placed, and at every smaller step with one
 pub record FirstFree (bs : List Placed) (cs : List Claim) (s : ℕ) : Type 0 where
   pub free : blocked bs cs s ≡ false
   pub least : (t : ℕ) → t < s → blocked bs cs t ≡ true

@@ -19,7 +19,7 @@ pub record Conflict (s : ℕ) (p : List ℕ) (t : ℕ) (q : List ℕ) : Type 0 w
   pub one : Enters s p link step
   pub other : Enters t q link step
 
--- packet k, whose path is p, would if started at s conflict with one listed before it, and that is the one
+-- started at s, packet k, whose path is p, would conflict with packet `by`, listed before it
 pub record Blocked (ps : List (List ℕ)) (ss : List ℕ) (k : ℕ) (p : List ℕ) (s : ℕ) : Type 0 where
   pub by : ℕ
   pub path : List ℕ
