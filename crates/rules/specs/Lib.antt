@@ -10,6 +10,7 @@ pub mod Check
 pub mod Lead
 pub mod Bytes
 pub mod JobText
+pub mod JobWritten
 pub mod PlanText
 pub mod Answers
 pub mod Plain

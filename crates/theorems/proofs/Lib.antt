@@ -18,4 +18,7 @@ pub mod Leads
 pub mod Started
 pub mod Rows
 pub mod TextFronts
+pub mod TextPieces
+pub mod TextLines
+pub mod TextExact
 pub mod Checked

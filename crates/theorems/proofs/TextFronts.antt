@@ -37,7 +37,7 @@ split-first c (b ∷ bs) = go (eqb b c) (split-first c bs)
     go true r = ([], split c bs, refl)
     go false (p, ps, e) = (b ∷ p, ps, rw e)
 
-split-some : (c : ℕ) (bs : List ℕ) → split c bs ≡ [] → ⊥
+pub split-some : (c : ℕ) (bs : List ℕ) → split c bs ≡ [] → ⊥
 split-some c bs e = cons≢nil (sym (split-first c bs .2) ∙ e)
 
 split-append : (c : ℕ) (xs ys : List ℕ) (ps : List (List ℕ)) → split c xs ≡ Ended ps → split c (xs ++ ys) ≡ ps ++ split c ys
@@ -71,7 +71,7 @@ split-ended c (b ∷ bs) = rw (split-ended c bs) (go (eqb b c) (split-first c bs
 -- ---- lines are read one after another
 
 -- a list of pieces is read if there is a first one
-abbrev read : ℕ → Job → List (List ℕ) → Outcome Job
+abbrev pub read : ℕ → Job → List (List ℕ) → Outcome Job
 read n j [] = is j
 read n j (p ∷ ps) = withLines n j p ps
 

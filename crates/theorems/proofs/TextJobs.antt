@@ -56,8 +56,8 @@ blank-job n a b = record {
 }
 
 -- the second job is accepted, and the paths of the first stand in front of its own
-record GoesOn (j k : Job) : Type 0 where
-  job : IsJob k
+pub record GoesOn (j k : Job) : Type 0 where
+  pub job : IsJob k
   more : List (List ℕ)
   front : paths k ≡ paths j ++ more
 
@@ -106,7 +106,7 @@ module _ (j : Job) (h : IsJob j) where
     front = paths-with-packet j h source path;
   }
 
-  goes-on-line : (n : ℕ) (l : Line) (k : Job) → withLine n j l ≡ is k → GoesOn j k
+  pub goes-on-line : (n : ℕ) (l : Line) (k : Job) → withLine n j l ≡ is k → GoesOn j k
   unfolding withLine
   goes-on-line n (nodes m) k e = absurd (refused-not-is e)
   goes-on-line n (link from to) k e =
