@@ -1,22 +1,28 @@
 -- The text reader accepts exactly the texts of jobs: an accepted text is the text of the job it says, and each job's text, if
 -- it is not too long, says that job.
-use mathlib.Core.Path.{_≡_, refl, sym}
-use mathlib.Core.List.{List, [], _∷_, _++_, append-nil, append-assoc}
+use mathlib.Core.Path.{_≡_, refl, sym, ap, _∙_}
+use mathlib.Core.Bool.{true}
+use mathlib.Core.List.{List, [], _∷_, _++_, append-nil, append-assoc, List·Memᴰ·head as here, List·Memᴰ·tail as there}
 use mathlib.Core.Logic.{_↔_, Iff·rfl}
+use mathlib.Core.Option.{some}
 use Prim.Native.Nat.{ℕ, suc, _+_, _≤_, _<_}
 use native.Mathlib.Omega.{arith}
-use lib.ListN.{length}
+use lib.ListN.{length, take, length-append, take-append-drop}
+use lib.Seq.{slice, length-take-le, length-slice, take-take, take-length}
 use Rattle.rules.specs.Sizes.{textMost, nodesMost, linksMost, packetsMost, hopsMost}
-use Rattle.rules.specs.Network.{Job, paths}
-use Rattle.rules.specs.Outcome.{is}
-use Rattle.rules.specs.Bytes.{lineFeed, letterL, letterP, lineText, split}
-use Rattle.rules.specs.JobText.{Line, nodes, link, packet, bad, lineOf, blank, withLink, withPacket, withLine, withLines, firstLine, allLines, reading}
+use Rattle.rules.specs.Network.{Job, pathsFrom, paths}
+use Rattle.rules.specs.Outcome.{is, onward}
+use Rattle.rules.specs.Tables.{stopsAgree}
+use Rattle.rules.specs.Bytes.{lineFeed, letterL, letterN, letterP, lineText, split}
+use Rattle.rules.specs.JobText.{Line, nodes, link, packet, bad, letterLine, lineOf, blank, withLink, withPacket, withLine, withLines, firstLine, allLines, reading}
 use Rattle.rules.specs.JobWritten.{linesText, jobText}
 use Rattle.theorems.proofs.Verdicts.{leb-iff, eqb-iff, and-iff, is-iff, refused-not-is, onward-is, must-iff, then-iff}
-use Rattle.theorems.proofs.Accepted.{IsLink, IsPacket, IsJob, link-fine-iff, packet-fine-iff, length-paths}
-use Rattle.theorems.proofs.TextJobs.{goes-on-line, first-job, paths-with-packet}
+use Rattle.theorems.proofs.Paths.{path-links-exist}
+use Rattle.theorems.proofs.Accepted.{AtEach, IsLink, IsPacket, IsJob, link-fine-iff, packet-fine-iff, length-paths, hops-from}
+use Rattle.theorems.proofs.TextJobs.{goes-on-line, first-job, paths-with-packet, reading-job}
+use Rattle.theorems.proofs.TextFronts.{split-some, read}
 use Rattle.theorems.proofs.TextPieces.{eachAfter, split-joined}
-use Rattle.theorems.proofs.TextLines.{Says, line-says}
+use Rattle.theorems.proofs.TextLines.{Sayable, line-of-bytes, split-line, Says, line-says}
 
 -- ---- one line more, and the job's text is that line longer
 
@@ -109,3 +115,110 @@ reading-lines-iff text j = then-iff (must-iff _ _ (leb-iff _ _)) Iff·rfl
 
 pub reading-text : (text : List ℕ) (j : Job) → reading text ≡ is j → text ≡ jobText j
 reading-text text j e = text-of-lines (split lineFeed text) text j refl (reading-lines-iff text j .0 e .1)
+
+-- ---- the hops up to a stop, and those from there to the next
+
+module _ (a e : ℕ) (hops : List ℕ) (l : a ≤ e) where
+  take-slice : take a hops ++ slice a e hops ≡ take e hops
+  take-slice = rw (← take-take a e hops l, take-append-drop)
+
+  length-take-slice : e ≤ length hops → length (take a hops) + length (slice a e hops) ≡ e
+  length-take-slice m = omega (arith, length-take-le a hops (omega arith), length-slice a e hops m)
+
+-- ---- from a job's text to the job
+
+-- from job i the bytes make job j, whatever the number of their first line
+abbrev Reads : Job → List ℕ → Job → Type 0
+Reads i bs j = (n : ℕ) → read n i (split lineFeed bs) ≡ is j
+
+after-line : (n : ℕ) (i : Job) (p bs : List ℕ) → withLines n i p (split lineFeed bs) ≡ onward (withLine n i (lineOf p)) (λ k. read (suc n) k (split lineFeed bs))
+unfolding withLines
+after-line n i p bs = go (split lineFeed bs) (split-some lineFeed bs)
+  where
+    go : (ps : List (List ℕ)) → (ps ≡ [] → ⊥) → withLines n i p ps ≡ onward (withLine n i (lineOf p)) (λ k. read (suc n) k ps)
+    go [] h = absurd (h refl)
+    go (q ∷ ps) h = refl
+
+after-first : (p bs : List ℕ) → allLines (p ∷ split lineFeed bs) ≡ onward (firstLine (lineOf p)) (λ k. read 2 k (split lineFeed bs))
+after-first p bs = go (split lineFeed bs) (split-some lineFeed bs)
+  where
+    go : (ps : List (List ℕ)) → (ps ≡ [] → ⊥) → allLines (p ∷ ps) ≡ onward (firstLine (lineOf p)) (λ k. read 2 k ps)
+    go [] h = absurd (h refl)
+    go (q ∷ ps) h = refl
+
+reads-line : (i k j : Job) (letter : ℕ) (ns bs : List ℕ) → lineFeed < letter → Sayable ns → ((n : ℕ) → withLine n i (letterLine letter (some ns)) ≡ is k) → Reads k bs j → Reads i (lineText letter ns ++ bs) j
+reads-line i k j letter ns bs l h a r n = rw (split-line letter ns bs l, after-line, line-of-bytes letter ns l h, a n) (r (suc n))
+
+module _ (j : Job) (job : IsJob j) where
+  sayable-nodes : Sayable (j .network .nodes ∷ [])
+  sayable-nodes n (here e) = omega (arith, e, job .nodes-most)
+
+  sayable-link : {from to : ℕ} → IsLink (j .network .nodes) from to → Sayable (from ∷ to ∷ [])
+  sayable-link h n (here e) = omega (arith, e, h .from-node, job .nodes-most)
+  sayable-link h n (there (here e)) = omega (arith, e, h .to-node, job .nodes-most)
+
+  sayable-packet : {source : ℕ} {path : List ℕ} → IsPacket (j .network) source path → Sayable (source ∷ path)
+  sayable-packet h n (here e) = omega (arith, e, h .source-node, job .nodes-most)
+  sayable-packet h n (there m) = omega (arith, path-links-exist (h .on-path) m, job .links-most)
+
+  -- the job's nodes with these links, and no packets
+  abbrev linked : List ℕ → List ℕ → Job
+  linked os es = record { network = record { nodes = j .network .nodes; origins = os; ends = es }; sources = []; stops = []; hops = [] }
+
+  reads-links : (os es us vs bs : List ℕ) (k : Job) → length us ≡ length vs → length (os ++ us) ≤ linksMost → AtEach (IsLink (j .network .nodes)) us vs
+      → Reads (linked (os ++ us) (es ++ vs)) bs k → Reads (linked os es) (linesText (λ from to. lineText letterL (from ∷ to ∷ [])) us vs ++ bs) k
+  unfolding linesText
+  reads-links os es [] [] bs k e l h r = simp append-nil at r
+  reads-links os es [] (v ∷ vs) bs k e l h r = absurd (omega arith)
+  reads-links os es (u ∷ us) [] bs k e l h r = absurd (omega arith)
+  reads-links os es (u ∷ us) (v ∷ vs) bs k e l h r =
+      let new = h 0 u v refl refl in
+      rw append-assoc
+      (reads-line (linked os es) (linked (os ++ (u ∷ [])) (es ++ (v ∷ []))) k letterL (u ∷ v ∷ []) _ (omega arith) (sayable-link new)
+      (λ n. with-link-iff n (linked os es) u v _ .1 (refl, (omega (arith, length-append os (u ∷ us)), (new, refl))))
+      (reads-links (os ++ (u ∷ [])) (es ++ (v ∷ [])) us vs bs k (omega arith) (simp append-assoc l) (λ i. h (suc i)) (simp append-assoc r)))
+
+  -- the job's links with these packets, and the hops up to a
+  abbrev packed : List ℕ → List ℕ → ℕ → Job
+  packed ss es a = record { network = j .network; sources = ss; stops = es; hops = take a (j .hops) }
+
+  with-packet-packed : (ss es : List ℕ) (s a e : ℕ) → a ≤ e → e ≤ length (j .hops) → withPacket (packed ss es a) s (slice a e (j .hops)) ≡ packed (ss ++ (s ∷ [])) (es ++ (e ∷ [])) e
+  with-packet-packed ss es s a e l m = rw (length-take-slice a e (j .hops) l m, take-slice a e (j .hops) l)
+
+  reads-packets : (ss es : List ℕ) (a : ℕ) (us vs : List ℕ) → length us ≡ length vs → length (ss ++ us) ≤ packetsMost → stopsAgree a vs (length (j .hops)) ≡ true
+      → AtEach (IsPacket (j .network)) us (pathsFrom a vs (j .hops))
+      → Reads (packed ss es a) (linesText (λ source path. lineText letterP (source ∷ path)) us (pathsFrom a vs (j .hops))) (packed (ss ++ us) (es ++ vs) (length (j .hops)))
+  unfolding linesText pathsFrom stopsAgree split withLines
+  reads-packets ss es a [] [] e l t h n = rw (eqb-iff a (length (j .hops)) .0 t, append-nil, append-nil)
+  reads-packets ss es a [] (v ∷ vs) e l t h n = absurd (omega arith)
+  reads-packets ss es a (u ∷ us) [] e l t h n = absurd (omega arith)
+  reads-packets ss es a (u ∷ us) (v ∷ vs) e l t h n =
+      let (low, agree) = and-iff (leb-iff a v) Iff·rfl .0 t in
+      let high : v ≤ length (j .hops) = omega (arith, hops-from v vs (j .hops) agree) in
+      let new = h 0 u (slice a v (j .hops)) refl refl in
+      let rest = reads-packets (ss ++ (u ∷ [])) (es ++ (v ∷ [])) v us vs (omega arith) (simp append-assoc l) agree (λ i. h (suc i)) in
+      reads-line (packed ss es a) (packed (ss ++ (u ∷ [])) (es ++ (v ∷ [])) v) _ letterP (u ∷ slice a v (j .hops)) _ (omega arith) (sayable-packet new)
+      (λ n. with-packet-iff n (packed ss es a) u (slice a v (j .hops)) _ .1 (omega (arith, length-append ss (u ∷ us)), (omega (arith, length-take-slice a v (j .hops) low high, job .hops-most), (new, with-packet-packed ss es u a v low high))))
+      (simp append-assoc at rest) n
+
+  text-lines : allLines (split lineFeed (jobText j)) ≡ is j
+  unfolding jobText paths
+  text-lines =
+      let packets = reads-packets [] [] 0 (j .sources) (j .stops) (sym (job .stops-count)) (job .packets-most) (job .stops-agree) (job .packets) in
+      let links = reads-links [] [] (j .network .origins) (j .network .ends) _ j (sym (job .ends-count)) (job .links-most) (job .links) (simp take-length at packets) in
+      rw (
+        append-assoc,
+        split-line letterN (j .network .nodes ∷ []) _ (omega arith),
+        after-first,
+        line-of-bytes letterN (j .network .nodes ∷ []) (omega arith) sayable-nodes,
+        first-iff (j .network .nodes) _ .1 ((job .nodes-least, job .nodes-most), refl),
+      ) (links 2)
+
+pub text-reads : (j : Job) → IsJob j → length (jobText j) ≤ textMost → reading (jobText j) ≡ is j
+text-reads j job l = reading-lines-iff (jobText j) j .1 (l, text-lines j job)
+
+pub reading-iff : (text : List ℕ) (j : Job) → (reading text ≡ is j) ↔ (IsJob j × (text ≡ jobText j) × (length text ≤ textMost))
+reading-iff text j = (
+  λ e. (reading-job text j e, reading-text text j e, reading-lines-iff text j .0 e .0),
+  λ (job, same, l). rw same (text-reads j job (rw same at l)),
+)
