@@ -20,5 +20,7 @@ pub mod Rows
 pub mod TextFronts
 pub mod TextPieces
 pub mod TextLines
+pub mod TextSteps
+pub mod TextWritten
 pub mod TextExact
 pub mod Checked

@@ -1,4 +1,4 @@
--- Lines: one made of a letter and numbers is read as these, and one that is not bad is made of what is read.
+-- Lines: one made of a letter and numbers is read as these, and one that is not bad form is made of what it is read as.
 use mathlib.Core.Path.{_≡_, refl, _∙_}
 use mathlib.Core.Bool.{Bool, true, false}
 use mathlib.Core.List.{List, [], _∷_, _++_, append-nil, append-assoc, map, List·Memᴰ, List·Memᴰ·head as here, List·Memᴰ·tail as there}
@@ -26,11 +26,11 @@ unfolding fieldsText
 fields-text [] = refl
 fields-text (n ∷ ns) = rw (fields-text ns, append-assoc)
 
-pub line-text : (letter : ℕ) (ns : List ℕ) → lineText letter ns ≡ lineBytes letter ns ++ (lineFeed ∷ [])
+line-text : (letter : ℕ) (ns : List ℕ) → lineText letter ns ≡ lineBytes letter ns ++ (lineFeed ∷ [])
 unfolding lineText
 line-text letter ns = rw fields-text
 
--- a number as written has digits only
+-- no byte below the digits, such as tab or line feed, stands in a number as written
 decimal-free : (c : ℕ) → c < 48 → (n : ℕ) → among c (decimal n) ≡ false
 decimal-free c h = decimal-induction (λ n. among c (decimal n) ≡ false)
     (λ n l. rw (decimal-small n l, ne-eqb (48 + n) c (omega arith)))
@@ -76,7 +76,7 @@ said-numbers (f ∷ fs) ns e = go (numberOf f) refl (numbersOf fs) refl e (said-
     go (some n) p none q e r = absurd (none-not-some e)
     go (some n) p (some ms) q e r = rw (← some-same e, number-iff f n .0 p .1, r ms q)
 
--- the bytes of a line that is not bad, with a line feed, are what the line says, as written
+-- the bytes, with a line feed, are the text of what the line says, unless it is bad form
 abbrev pub Says : List ℕ → Line → Type 0
 Says bytes (nodes n) = bytes ++ (lineFeed ∷ []) ≡ lineText letterN (n ∷ [])
 Says bytes (link from to) = bytes ++ (lineFeed ∷ []) ≡ lineText letterL (from ∷ to ∷ [])
