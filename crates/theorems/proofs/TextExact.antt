@@ -18,12 +18,12 @@ use Rattle.rules.specs.JobText.{letterLine, lineOf, withPacket, withLine, withL
 use Rattle.rules.specs.JobWritten.{linesText, jobText}
 use Rattle.theorems.proofs.Verdicts.{leb-iff, eqb-iff, and-iff}
 use Rattle.theorems.proofs.Paths.{path-links-exist}
-use Rattle.theorems.proofs.Accepted.{AtEach, IsLink, IsPacket, IsJob, hops-from}
+use Rattle.theorems.specs.Jobs.{AtEach, IsLink, IsPacket, IsJob}
+use Rattle.theorems.proofs.Accepted.{hops-from, job-stops-agree}
 use Rattle.theorems.proofs.TextJobs.{reading-job}
-use Rattle.theorems.proofs.TextFronts.{read}
-use Rattle.theorems.proofs.TextPieces.{split-cons}
+use Rattle.theorems.proofs.TextPieces.{split-first}
 use Rattle.theorems.proofs.TextLines.{Sayable, line-of-bytes, split-line}
-use Rattle.theorems.proofs.TextSteps.{reading-lines-iff, first-line-iff, link-line-iff, packet-line-iff}
+use Rattle.theorems.proofs.TextSteps.{read, reading-lines-iff, first-line-iff, link-line-iff, packet-line-iff}
 use Rattle.theorems.proofs.TextWritten.{reading-text}
 
 -- ---- the hops up to one stop, and those from there to the next
@@ -43,10 +43,10 @@ Reads i bs j = (n : ℕ) → read n i (split lineFeed bs) ≡ is j
 
 after-line : (n : ℕ) (i : Job) (p bs : List ℕ) → withLines n i p (split lineFeed bs) ≡ onward (withLine n i (lineOf p)) (λ k. read (suc n) k (split lineFeed bs))
 unfolding withLines
-after-line n i p bs = let (q, qs, e) = split-cons lineFeed bs in rw e
+after-line n i p bs = let (q, qs, e) = split-first lineFeed bs in rw e
 
 after-first : (p bs : List ℕ) → allLines (p ∷ split lineFeed bs) ≡ onward (firstLine (lineOf p)) (λ k. read 2 k (split lineFeed bs))
-after-first p bs = let (q, qs, e) = split-cons lineFeed bs in rw e
+after-first p bs = let (q, qs, e) = split-first lineFeed bs in rw e
 
 reads-line : (i k j : Job) (letter : ℕ) (ns bs : List ℕ) → lineFeed < letter → Sayable ns → ((n : ℕ) → withLine n i (letterLine letter (some ns)) ≡ is k)
     → Reads k bs j → Reads i (lineText letter ns ++ bs) j
@@ -110,7 +110,7 @@ module _ (j : Job) (job : IsJob j) where
   text-lines : allLines (split lineFeed (jobText j)) ≡ is j
   unfolding jobText paths
   text-lines =
-      let packets = reads-packets [] [] 0 (j .sources) (j .stops) (sym (job .stops-count)) (job .packets-most) (job .stops-agree) (job .packets) in
+      let packets = reads-packets [] [] 0 (j .sources) (j .stops) (sym (job .stops-count)) (job .packets-most) (job-stops-agree j job) (job .packets) in
       let links = reads-links [] [] (j .network .origins) (j .network .ends) _ j (sym (job .ends-count)) (job .links-most) (job .links) (simp take-length at packets) in
       rw (
         append-assoc,

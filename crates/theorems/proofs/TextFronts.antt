@@ -1,79 +1,22 @@
 -- A text cut after a line is accepted where the whole is, and what is put after a job's text moves none of its packets.
 use mathlib.Core.Path.{_≡_, refl, sym, ap, _∙_}
-use mathlib.Core.Bool.{Bool, true, false}
-use mathlib.Core.List.{List, [], _∷_, _++_, head-eq-of-cons-eq, tail-eq-of-cons-eq, nil≢cons, cons≢nil}
+use mathlib.Core.List.{List, [], _∷_, _++_}
 use Prim.Native.Nat.{ℕ, suc, _+_}
 use native.Mathlib.Omega.{arith}
-use lib.Dec.{eqb}
 use lib.ListN.{length, take, length-append}
 use lib.Seq.{take-length, take-all}
-use borrow.Author.Tests.{eq-eqb}
-use Rattle.counting.specs.Count.{pick}
 use Rattle.rules.specs.Network.{Job, paths}
 use Rattle.rules.specs.Outcome.{Outcome, is, refused, onward}
 use Rattle.rules.specs.Greedy.{greedy}
-use Rattle.rules.specs.Bytes.{lineFeed, onto, split}
+use Rattle.rules.specs.Bytes.{lineFeed, split}
 use Rattle.rules.specs.JobText.{lineOf, withLine, withLines, firstLine, allLines, reading}
 use Rattle.theorems.proofs.Verdicts.{refused-not-is, is-iff, eqb-iff, must-iff, then-iff, onward-is}
-use Rattle.theorems.proofs.TextJobs.{reading-iff, reading-job, text-front}
+use Rattle.theorems.proofs.TextPieces.{Ended, split-first, split-append, split-ended}
+use Rattle.theorems.proofs.TextSteps.{reading-lines-iff, read}
+use Rattle.theorems.proofs.TextJobs.{reading-job, text-front}
 use Rattle.theorems.proofs.Starts.{length-greedy, greedy-front}
 
--- ---- the pieces of a text that ends where a piece does
-
--- the pieces ps, each ended, and nothing left
-abbrev Ended : List (List ℕ) → List (List ℕ)
-Ended ps = ps ++ ([] ∷ [])
-
--- there is a first piece
-abbrev HasFirst : List (List ℕ) → Type 0
-HasFirst pieces = (p : List ℕ) × (ps : List (List ℕ)) × (pieces ≡ p ∷ ps)
-
-split-first : (c : ℕ) (bs : List ℕ) → HasFirst (split c bs)
-unfolding split
-split-first c [] = ([], [], refl)
-split-first c (b ∷ bs) = go (eqb b c) (split-first c bs)
-  where
-    go : (t : Bool) → HasFirst (split c bs) → HasFirst (pick t ([] ∷ split c bs) (onto b (split c bs)))
-    go true r = ([], split c bs, refl)
-    go false (p, ps, e) = (b ∷ p, ps, rw e)
-
-pub split-some : (c : ℕ) (bs : List ℕ) → split c bs ≡ [] → ⊥
-split-some c bs e = cons≢nil (sym (split-first c bs .2) ∙ e)
-
-split-append : (c : ℕ) (xs ys : List ℕ) (ps : List (List ℕ)) → split c xs ≡ Ended ps → split c (xs ++ ys) ≡ ps ++ split c ys
-unfolding split
-split-append c [] ys [] e = refl
-split-append c [] ys (p ∷ ps) e = absurd (ended-some ps (tail-eq-of-cons-eq e))
-  where
-    ended-some : (ps : List (List ℕ)) → [] ≡ Ended ps → ⊥
-    ended-some [] e = nil≢cons e
-    ended-some (p ∷ ps) e = nil≢cons e
-split-append c (b ∷ xs) ys ps e = go (eqb b c) (split c xs) refl ps e (split-append c xs ys)
-  where
-    go : (t : Bool) (qs : List (List ℕ)) → split c xs ≡ qs → (ps : List (List ℕ)) → pick t ([] ∷ qs) (onto b qs) ≡ Ended ps
-        → ((ps : List (List ℕ)) → split c xs ≡ Ended ps → split c (xs ++ ys) ≡ ps ++ split c ys) → pick t ([] ∷ split c (xs ++ ys)) (onto b (split c (xs ++ ys))) ≡ ps ++ split c ys
-    go true qs q [] e r = absurd (split-some c xs (q ∙ tail-eq-of-cons-eq e))
-    go true qs q (p ∷ ps) e r = rw (r ps (q ∙ tail-eq-of-cons-eq e), ← head-eq-of-cons-eq e)
-    go false [] q ps e r = absurd (split-some c xs q)
-    go false (p ∷ qs) q [] e r = absurd (cons≢nil (head-eq-of-cons-eq e))
-    go false (p ∷ qs) q (s ∷ ps) e r = rw (r (p ∷ ps) (q ∙ ap (λ r. p ∷ r) (tail-eq-of-cons-eq e)), ← head-eq-of-cons-eq e)
-
--- a byte ends the pieces of what stands before it
-split-ended : (c : ℕ) (bs : List ℕ) → split c (bs ++ (c ∷ [])) ≡ Ended (split c bs)
-unfolding split
-split-ended c [] = rw (eq-eqb c c refl)
-split-ended c (b ∷ bs) = rw (split-ended c bs) (go (eqb b c) (split-first c bs))
-  where
-    go : (t : Bool) → HasFirst (split c bs) → pick t ([] ∷ Ended (split c bs)) (onto b (Ended (split c bs))) ≡ Ended (pick t ([] ∷ split c bs) (onto b (split c bs)))
-    go true r = refl
-    go false (p, ps, e) = rw e
-
 -- ---- lines are read one after another
-
--- a list of pieces is read if there is a first one
-abbrev pub read : ℕ → Job → List (List ℕ) → Outcome Job
-read n j [] = is j
-read n j (p ∷ ps) = withLines n j p ps
 
 read-cons : (n : ℕ) (j : Job) (p : List ℕ) (ps : List (List ℕ)) (q : List ℕ) (qs : List (List ℕ)) → withLines n j p (ps ++ q ∷ qs) ≡ onward (withLine n j (lineOf p)) (λ k. read (suc n) k (ps ++ q ∷ qs))
 unfolding withLines
@@ -137,9 +80,9 @@ front-of : (front more : List ℕ) (j : Job) → Whole (split lineFeed front) �
 front-of front more j (p, ps, whole) e =
     let (q, qs, first) = split-first lineFeed more in
     let pieces : split lineFeed (front ++ more) ≡ p ∷ (ps ++ q ∷ qs) = split-append lineFeed front more (p ∷ ps) whole ∙ ap (λ (qs : List (List ℕ)). p ∷ (ps ++ qs)) first in
-    let (short, lines) = reading-iff (front ++ more) j .0 e in
+    let (short, lines) = reading-lines-iff (front ++ more) j .0 e in
     let (i, read, on) = onward-is (allLines (p ∷ Ended ps)) _ (sym (all-append p ps q qs) ∙ (rw pieces at lines)) in
-    let says = reading-iff front i .1 (omega (arith, length-append front more), rw whole read) in
+    let says = reading-lines-iff front i .1 (omega (arith, length-append front more), rw whole read) in
     record { job = i; says = says; packets = text-front (2 + length ps) i q qs j (reading-job front i says) on }
 
 -- ---- what a text goes on with moves nothing
@@ -151,7 +94,7 @@ reading-front front f more j last e = let r = front-of front more j (rw last (fe
 -- an accepted text that begins with an accepted text has its packets in front
 pub paths-of-front : (front more : List ℕ) (i j : Job) → reading front ≡ is i → reading (front ++ more) ≡ is j → take (length (paths i)) (paths j) ≡ paths i
 paths-of-front front more i j e f =
-    let r = front-of front more j (accepted-whole _ i (reading-iff front i .0 e .1)) f in
+    let r = front-of front more j (accepted-whole _ i (reading-lines-iff front i .0 e .1)) f in
     let same : r .job ≡ i = is-iff .0 (sym (r .says) ∙ e) in
     rw (← same) (r .packets)
 

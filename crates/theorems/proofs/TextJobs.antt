@@ -3,13 +3,13 @@
 use mathlib.Core.Path.{_≡_, refl, sym, _∙_}
 use mathlib.Core.Bool.{true}
 use mathlib.Core.List.{List, [], _∷_, _++_, append-nil, append-assoc}
-use mathlib.Core.Logic.{_↔_, Iff·rfl}
+use mathlib.Core.Logic.{Iff·rfl}
 use Prim.Native.Nat.{ℕ, suc, _+_, _≤_, _<_}
 use native.Mathlib.Omega.{arith}
 use lib.ListN.{length, take, length-append}
 use lib.Seq.{take-append-seam, take-append-add, take-append-le, take-length, drop-at}
 use Rattle.counting.proofs.Places.{none-not-some, at-below}
-use Rattle.rules.specs.Sizes.{textMost, nodesMost, linksMost, packetsMost, hopsMost}
+use Rattle.rules.specs.Sizes.{nodesMost, linksMost, packetsMost, hopsMost}
 use Rattle.rules.specs.Network.{Job, pathsFrom, paths}
 use Rattle.rules.specs.Outcome.{is, fine}
 use Rattle.rules.specs.Tables.{stopsAgree, tables}
@@ -17,7 +17,8 @@ use Rattle.rules.specs.Bytes.{lineFeed, split}
 use Rattle.rules.specs.JobText.{Line, nodes, link, packet, bad, lineOf, blank, withLink, withPacket, withLine, withLines, firstLine, allLines, reading}
 use Rattle.theorems.specs.Jobs.{IsLink, IsPacket, IsJob}
 use Rattle.theorems.proofs.Verdicts.{leb-iff, eqb-iff, and-iff, is-iff, refused-not-is, onward-is, must-iff, then-iff}
-use Rattle.theorems.proofs.Accepted.{at-each-snoc, stops-agree-iff, link-fine-iff, packet-fine-iff, tables-fine-iff, job-stops-agree, length-paths, hops-from}
+use Rattle.theorems.proofs.TextSteps.{reading-lines-iff, first-line-iff, link-line-iff, packet-line-iff}
+use Rattle.theorems.proofs.Accepted.{at-each-snoc, stops-agree-iff, tables-fine-iff, job-stops-agree, length-paths, hops-from}
 
 -- one more stop, at the new end of the hops
 stops-agree-snoc : (a : ℕ) (stops : List ℕ) (m n : ℕ) → m ≤ n → stopsAgree a stops m ≡ true → stopsAgree a (stops ++ (n ∷ [])) n ≡ true
@@ -110,10 +111,10 @@ module _ (j : Job) (h : IsJob j) where
   unfolding withLine
   goes-on-line n (nodes m) k e = absurd (refused-not-is e)
   goes-on-line n (link from to) k e =
-      let (first, (room, (new, r))) = then-iff (must-iff _ _ (eqb-iff _ 0)) (then-iff (must-iff _ _ (leb-iff _ _)) (then-iff (link-fine-iff _ n from to) is-iff)) .0 e in
+      let (first, (room, (new, r))) = link-line-iff n j from to k .0 e in
       rw (← r) (goes-on-link from to first room new)
   goes-on-line n (packet source path) k e =
-      let (room, (hops, (new, r))) = then-iff (must-iff _ _ (leb-iff _ _)) (then-iff (must-iff _ _ (leb-iff _ _)) (then-iff (packet-fine-iff (j .network) n source path) is-iff)) .0 e in
+      let (room, (hops, (new, r))) = packet-line-iff n j source path k .0 e in
       rw (← r) (goes-on-packet source path room hops new)
   goes-on-line n bad k e = absurd (refused-not-is e)
 
@@ -127,7 +128,7 @@ goes-on-lines n p (q ∷ ps) j k h e =
 
 pub first-job : (l : Line) (j : Job) → firstLine l ≡ is j → IsJob j
 first-job (nodes n) j e =
-    let ((a, b), r) = then-iff (must-iff _ _ (and-iff (leb-iff 1 n) (leb-iff n nodesMost))) is-iff .0 e in
+    let ((a, b), r) = first-line-iff n j .0 e in
     rw (← r) (blank-job n a b)
 first-job (link from to) j e = absurd (refused-not-is e)
 first-job (packet source path) j e = absurd (refused-not-is e)
@@ -140,12 +141,8 @@ all-lines-job (p ∷ q ∷ ps) j e =
     let (i, a, b) = onward-is (firstLine (lineOf p)) (λ i. withLines 2 i q ps) e in
     goes-on-lines 2 q ps i j (first-job (lineOf p) i a) b .job
 
-pub reading-iff : (text : List ℕ) (j : Job) → (reading text ≡ is j) ↔ ((length text ≤ textMost) × (allLines (split lineFeed text) ≡ is j))
-unfolding reading
-reading-iff text j = then-iff (must-iff 1 0 (leb-iff (length text) textMost)) Iff·rfl
-
 pub reading-job : (text : List ℕ) (j : Job) → reading text ≡ is j → IsJob j
-reading-job text j e = all-lines-job (split lineFeed text) j (reading-iff text j .0 e .1)
+reading-job text j e = all-lines-job (split lineFeed text) j (reading-lines-iff text j .0 e .1)
 
 pub reading-accepted : (text : List ℕ) (j : Job) → reading text ≡ is j → tables j ≡ fine
 reading-accepted text j e = tables-fine-iff j .1 (reading-job text j e)

@@ -11,7 +11,8 @@ use Rattle.rules.specs.Bytes.{lineFeed, letterL, letterP, lineText, split}
 use Rattle.rules.specs.JobText.{Line, nodes, link, packet, bad, lineOf, withLink, withPacket, withLine, withLines, firstLine, allLines, reading}
 use Rattle.rules.specs.JobWritten.{linesText, jobText}
 use Rattle.theorems.proofs.Verdicts.{eqb-iff, is-iff, refused-not-is, onward-is, must-iff, then-iff}
-use Rattle.theorems.proofs.Accepted.{IsJob, length-paths}
+use Rattle.theorems.specs.Jobs.{IsJob}
+use Rattle.theorems.proofs.Accepted.{length-paths}
 use Rattle.theorems.proofs.TextJobs.{goes-on-line, first-job, paths-with-packet}
 use Rattle.theorems.proofs.TextPieces.{eachAfter, split-joined}
 use Rattle.theorems.proofs.TextLines.{Says, line-says}
