@@ -10,7 +10,7 @@ ghost use Rattle.rules.specs.Network.{paths};
 ghost use Rattle.rules.specs.Tables.{linkVerdict, walk as walkVerdict, packetVerdict, linksVerdict, packetsVerdict, stopsAgree, tables as tablesVerdict};
 ghost use Rattle.rules.specs.Answers.{startsVerdict, startedVerdict};
 ghost use Rattle.job.specs.Lists.{networkOf, jobOf, entered, sizesFit};
-ghost use Rattle.job.specs.Told.{verdictOf};
+ghost use Rattle.job.specs.Told.{numberPlace, verdictOf};
 
 // The counts of a job whose lists stand beside it.
 pub struct Job {
@@ -110,6 +110,49 @@ pub enum Refusal {
     StartCount,
     LateStart(u32),
     NoLead,
+}
+
+impl Refusal {
+    // The number that document 01 gives it.
+    pub fn number(self) -> u32
+        ensures { λ r. ⌜ r ≡ numberPlace self .0 ⌝ }
+    {
+        match self {
+            Refusal::TextTooLong => 1,
+            Refusal::BadForm(_) => 2,
+            Refusal::Size(_) => 3,
+            Refusal::NoNode(_) => 4,
+            Refusal::SelfLink(_) => 5,
+            Refusal::NoLink(_) => 6,
+            Refusal::NotLeaving(_) => 7,
+            Refusal::Revisited(_) => 8,
+            Refusal::Disagree => 9,
+            Refusal::ShortRoom => 10,
+            Refusal::StartCount => 11,
+            Refusal::LateStart(_) => 12,
+            Refusal::NoLead => 13,
+        }
+    }
+
+    pub fn place(self) -> u32
+        ensures { λ r. ⌜ r ≡ numberPlace self .1 ⌝ }
+    {
+        match self {
+            Refusal::BadForm(line) => line,
+            Refusal::Size(place) => place,
+            Refusal::NoNode(place) => place,
+            Refusal::SelfLink(place) => place,
+            Refusal::NoLink(place) => place,
+            Refusal::NotLeaving(place) => place,
+            Refusal::Revisited(place) => place,
+            Refusal::LateStart(packet) => packet,
+            Refusal::TextTooLong => 0,
+            Refusal::Disagree => 0,
+            Refusal::ShortRoom => 0,
+            Refusal::StartCount => 0,
+            Refusal::NoLead => 0,
+        }
+    }
 }
 
 pub enum Verdict {
