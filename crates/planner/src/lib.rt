@@ -130,7 +130,7 @@ fn fill(stops: &[u16], hops: &[u16], starts: &mut [u16])
 }
 
 // Where packet k is when it enters the link, if it does.
-pub enum Entered {
+enum Entered {
     At(Step),
     Nowhere,
 }
