@@ -20,7 +20,7 @@ use Rattle.planner.specs.Told.{PlannedAs}
 
 -- the planner said that all is fine
 module _ (j : Job) (room : ℕ) (lent after : List ℕ) (p : PlannedAs (planned j room) Fine lent after) where
-  planned-greedy : (tables j ≡ fine) × (planned j room ≡ is (greedy j))
+  pub planned-greedy : (tables j ≡ fine) × (planned j room ≡ is (greedy j))
   planned-greedy = go (planned j room) refl (p .verdict)
     where
       go : (o : Outcome (List ℕ)) → planned j room ≡ o → fine ≡ onward o (λ starts. fine) → (tables j ≡ fine) × (planned j room ≡ is (greedy j))

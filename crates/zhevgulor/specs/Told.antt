@@ -1,0 +1,36 @@
+-- What the answers that C programs get mean, in the terms of the rules.
+use mathlib.Core.Path.{_≡_}
+use mathlib.Core.List.{List, [], _∷_}
+use mathlib.Core.Option.{Option, none, some}
+use Prim.Native.Nat.{ℕ}
+use lib.IntN.{ℤ, pos}
+use lib.ListN.{length}
+use Rattle.rules.specs.Network.{Job}
+use Rattle.rules.specs.Outcome.{Outcome, is, refused, onward}
+use Rattle.rules.specs.Check.{Clash}
+use Rattle.rules.specs.Answers.{inRoom, lentAfter, checked}
+use Rattle.zhevgulor.specs.declared.Answer.{Answer}
+use Rattle.zhevgulor.specs.declared.LeadAnswer.{LeadAnswer}
+
+-- a value behind refusal 0, or a refusal's number with its place
+abbrev pub answerFor : Outcome ℕ → Answer
+answerFor (is n) = record { refusal = 0; value = n }
+answerFor (refused number place) = record { refusal = number; value = place }
+
+abbrev pub leadFor : Outcome ℤ → LeadAnswer
+leadFor (is z) = record { refusal = 0; place = 0; lead = z }
+leadFor (refused number place) = record { refusal = number; place = place; lead = pos 0 }
+
+-- an answer that is written into a lent list: its length is told, and the list afterwards holds it in its first places
+pub record LentAs (answer : Outcome (List ℕ)) (told : Answer) (lent after : List ℕ) : Type 0 where
+  pub answered : told ≡ answerFor (onward answer (λ a. is (length a)))
+  pub list : after ≡ lentAfter answer lent
+
+-- a clash as four numbers, and nothing where all is clear
+abbrev pub clashNumbers : Option Clash → List ℕ
+clashNumbers none = []
+clashNumbers (some c) = c .later ∷ c .earlier ∷ c .resource ∷ c .step ∷ []
+
+-- the check with room for so many numbers
+unfoldable pub checkedIn : Job → List ℕ → ℕ → Outcome (List ℕ)
+checkedIn j starts room = onward (checked j starts) (λ found. inRoom (clashNumbers found) room)

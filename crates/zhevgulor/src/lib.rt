@@ -1,0 +1,171 @@
+// What a C program calls: include/zhevgulor.h declares it. Each function is thin over a proved one.
+ghost use mathlib.Core.Path.{_≡_};
+ghost use mathlib.Core.List.{[], _∷_};
+ghost use lib.ListN.{length};
+ghost use Rattle.rules.specs.Outcome.{is, onward};
+ghost use Rattle.rules.specs.Tables.{tables as tablesVerdict};
+ghost use Rattle.rules.specs.Answers.{planned, led, inRoom};
+ghost use Rattle.job.specs.Lists.{jobOf};
+ghost use Rattle.job.specs.Told.{refusalOf};
+ghost use Rattle.zhevgulor.specs.Told.{answerFor, leadFor, LentAs, checkedIn};
+use job::Refusal;
+use job::Step;
+use job::Verdict;
+use planner::Checked;
+use planner::Led;
+
+// Refusal 0 and a value, or a refusal's number and its place.
+#[repr(C)]
+pub struct Answer {
+    pub refusal: u32,
+    pub value: u32,
+}
+
+// Refusal 0 and the lead, or a refusal's number and its place.
+#[repr(C)]
+pub struct LeadAnswer {
+    pub refusal: u32,
+    pub place: u32,
+    pub lead: i32,
+}
+
+fn value(n: u32) -> Answer
+    ensures { λ r. ⌜ r ≡ answerFor (is n) ⌝ }
+{
+    Answer {
+        refusal: 0,
+        value: n,
+    }
+}
+
+fn refused(refusal: Refusal) -> Answer
+    ensures { λ r. ⌜ r ≡ answerFor (refusalOf refusal) ⌝ }
+{
+    Answer {
+        refusal: refusal.number(),
+        value: refusal.place(),
+    }
+}
+
+// Whether the lists are a job: value 0.
+#[no_mangle]
+pub extern "C" fn zhevgulor_tables(
+    nodes: u16,
+    origins: &[u16],
+    ends: &[u16],
+    sources: &[u16],
+    stops: &[u16],
+    hops: &[u16],
+) -> Answer
+    ensures { λ r. ⌜ r ≡ answerFor (onward (tablesVerdict (jobOf nodes (now (origins .entry)) (now (ends .entry)) (now (sources .entry)) (now (stops .entry)) (now (hops .entry)))) (λ fine. is 0)) ⌝ }
+{
+    let verdict = job::tables(nodes, origins, ends, sources, stops, hops);
+    match verdict {
+        Verdict::Fine => value(0),
+        Verdict::Refused(refusal) => refused(refusal),
+    }
+}
+
+// The greedy starts of a job: value is the number of packets, whose starts stand in the first places.
+#[no_mangle]
+pub extern "C" fn zhevgulor_starts(
+    nodes: u16,
+    origins: &[u16],
+    ends: &[u16],
+    sources: &[u16],
+    stops: &[u16],
+    hops: &[u16],
+    starts: &mut [u16],
+) -> Answer
+    ensures { λ r. ⌜ LentAs (planned (jobOf nodes (now (origins .entry)) (now (ends .entry)) (now (sources .entry)) (now (stops .entry)) (now (hops .entry))) (length (now (starts .entry)))) r (now (starts .entry)) (now (starts .exit)) ⌝ }
+{
+    let verdict = planner::plan(nodes, origins, ends, sources, stops, hops, starts);
+    match verdict {
+        Verdict::Fine => value(sources.len() as u32),
+        Verdict::Refused(refusal) => refused(refusal),
+    }
+}
+
+// The four numbers of a clash, where there is room for them.
+fn shown(later: u16, earlier: u16, link: u16, step: Step, clash: &mut [u32]) -> Answer
+    ensures { λ r. ⌜ LentAs (inRoom (later ∷ earlier ∷ link ∷ step .0 ∷ []) (length (now (clash .entry)))) r (now (clash .entry)) (now (clash .exit)) ⌝ }
+{
+    if clash.len() < 4 {
+        return refused(Refusal::ShortRoom);
+    }
+    clash[0] = later as u32;
+    clash[1] = earlier as u32;
+    clash[2] = link as u32;
+    clash[3] = step.0;
+    value(4)
+}
+
+// The check of starts made elsewhere: value 0 is clear, value 4 a clash, whose later packet, earlier packet, link and step
+// stand in the first places.
+#[no_mangle]
+pub extern "C" fn zhevgulor_check(
+    nodes: u16,
+    origins: &[u16],
+    ends: &[u16],
+    sources: &[u16],
+    stops: &[u16],
+    hops: &[u16],
+    starts: &[u16],
+    clash: &mut [u32],
+) -> Answer
+    ensures { λ r. ⌜ LentAs (checkedIn (jobOf nodes (now (origins .entry)) (now (ends .entry)) (now (sources .entry)) (now (stops .entry)) (now (hops .entry))) (now (starts .entry)) (length (now (clash .entry)))) r (now (clash .entry)) (now (clash .exit)) ⌝ }
+{
+    let checked = planner::check(nodes, origins, ends, sources, stops, hops, starts);
+    match checked {
+        Checked::Clear => value(0),
+        Checked::Refused(refusal) => refused(refusal),
+        Checked::Clash {
+            later,
+            earlier,
+            link,
+            step,
+        } => shown(later, earlier, link, step, clash),
+    }
+}
+
+// The lead of packet a over packet b on the link.
+#[no_mangle]
+pub extern "C" fn zhevgulor_lead(
+    nodes: u16,
+    origins: &[u16],
+    ends: &[u16],
+    sources: &[u16],
+    stops: &[u16],
+    hops: &[u16],
+    starts: &[u16],
+    a: u16,
+    b: u16,
+    link: u16,
+) -> LeadAnswer
+    ensures { λ r. ⌜ r ≡ leadFor (led (jobOf nodes (now (origins .entry)) (now (ends .entry)) (now (sources .entry)) (now (stops .entry)) (now (hops .entry))) (now (starts .entry)) a b link) ⌝ }
+{
+    let led = planner::lead(
+        nodes,
+        origins,
+        ends,
+        sources,
+        stops,
+        hops,
+        starts,
+        a,
+        b,
+        link,
+    );
+    match led {
+        Led::By(difference) => LeadAnswer {
+            refusal: 0,
+            place: 0,
+            lead: difference,
+        },
+        Led::Refused(refusal) => LeadAnswer {
+            refusal: refusal.number(),
+            place: refusal.place(),
+            lead: 0,
+        },
+    }
+}
