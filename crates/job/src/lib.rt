@@ -361,12 +361,12 @@ fn starts_verdict(starts: &[u16]) -> Verdict
     requires { ⌜ length (now starts) ≤ packetsMost ⌝ }
     ensures { λ r. ⌜ verdictOf r ≡ startsVerdict 0 (now (starts .entry)) ⌝ }
 {
-    let mut k = 0;
-    while k < starts.len() {
-        if starts[k] > Job::START {
-            return Verdict::Refused(Refusal::LateStart(k as u32));
+    let mut packet = 0;
+    while packet < starts.len() {
+        if starts[packet] > Job::START {
+            return Verdict::Refused(Refusal::LateStart(packet as u32));
         }
-        k += 1;
+        packet += 1;
     }
     Verdict::Fine
 }

@@ -162,9 +162,9 @@ pub extern "C" fn zhevgulor_lead(
             place: 0,
             lead: difference,
         },
-        Led::Refused(refusal) => LeadAnswer {
-            refusal: refusal.number(),
-            place: refusal.place(),
+        Led::Refused(why) => LeadAnswer {
+            refusal: why.number(),
+            place: why.place(),
             lead: 0,
         },
     }

@@ -10,10 +10,10 @@ use Rattle.job.proofs.starts_verdict.Statement.{statement}
 use Rattle.job.proofs.starts_verdict.Tie as tie
 
 abbrev Inv-loop : tie.InvT-loop
-Inv-loop starts k₀ k = (k ≤ length starts) × (startsVerdict 0 starts ≡ startsVerdict k (drop k starts))
+Inv-loop starts packet₀ packet = (packet ≤ length starts) × (startsVerdict 0 starts ≡ startsVerdict packet (drop packet starts))
 
 abbrev μ-loop : tie.MeasureT-loop
-μ-loop starts k₀ k = length starts - k
+μ-loop starts packet₀ packet = length starts - packet
 
 loop-holds : tie.Need-loop-holds Inv-loop μ-loop
 loop-holds c = (omega arith, refl)
@@ -30,8 +30,8 @@ cast-t7 c = search needs
 returns : tie.Need-returns Inv-loop μ-loop
 returns c = sym (c .before .before .before .loop .inv .1 ∙ starts-late _ _ (c .before .before .loop-test .taken) (c .if1 .taken))
 
-add-k : tie.Need-add-k Inv-loop μ-loop
-add-k c = search needs
+add-packet : tie.Need-add-packet Inv-loop μ-loop
+add-packet c = search needs
 
 loop-less : tie.Need-loop-less Inv-loop μ-loop
 loop-less c = search needs
@@ -53,7 +53,7 @@ starts-verdict-spec =
     shared-slice-read-if1
     cast-t7
     returns
-    add-k
+    add-packet
     loop-less
     loop-again
     returns-2)
