@@ -1,0 +1,47 @@
+-- `lines::writing::line_of_three` meets its contract: letter, fields and line feed, one after another.
+use native.Mathlib.Omega.{arith}
+use borrow.Author.Needs.{needs}
+use Rattle.rules.specs.Bytes.{fieldsText, lineText}
+use Rattle.lines.proofs.Putting.{put-then}
+use Rattle.lines.proofs.writing.line_of_three.Statement.{statement}
+use Rattle.lines.proofs.writing.line_of_three.Tie as tie
+
+byte-requires : tie.Need-byte-requires
+byte-requires c κs = search needs
+
+field-requires : tie.Need-field-requires
+field-requires c κs = search needs
+
+field-requires-2 : tie.Need-field-requires-2
+field-requires-2 c κs = search needs
+
+field-requires-3 : tie.Need-field-requires-3
+field-requires-3 c κs = search needs
+
+byte-requires-2 : tie.Need-byte-requires-2
+byte-requires-2 c κs = search needs
+
+same-length : tie.Need-same-length
+same-length c = search needs
+
+returns : tie.Need-returns
+unfolding lineText fieldsText
+returns c =
+    let feed = c .before .before in
+    let third = feed .before .before .before .before in
+    let second = third .before .before .before .before in
+    let first = second .before .before .before .before in
+    let letter = first .before .before .before .before in
+    (put-then (letter .byte .ensures) (put-then (first .field .ensures .0) (put-then (second .field2 .ensures .0) (put-then (third .field3 .ensures .0) (feed .byte2 .ensures)))), omega arith)
+
+pub line-of-three-spec : {M : Type 1} → statement M
+line-of-three-spec =
+    tie.close
+    (tie.spec
+    byte-requires
+    field-requires
+    field-requires-2
+    field-requires-3
+    byte-requires-2
+    same-length
+    returns)

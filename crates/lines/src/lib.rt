@@ -1,0 +1,2 @@
+// Numbers and lines as bytes.
+pub mod writing;

@@ -1,0 +1,5 @@
+pub mod Stops
+pub mod Turns
+pub mod Loads
+pub mod Answering
+pub mod OneAnswer
