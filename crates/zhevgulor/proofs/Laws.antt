@@ -33,6 +33,8 @@ use Rattle.planner.specs.declared.Led.{Led}
 use Rattle.planner.specs.declared.Led.the-variants.{By, Refused as LeadRefused}
 use Rattle.planner.specs.Told.{PlannedAs, checkedOf, ledOf}
 use Rattle.planner.proofs.Obeys.{planned-greedy}
+use Rattle.writer.specs.declared.Written.{Written}
+use Rattle.writer.specs.Told.{writtenOf, WrittenAs}
 use Rattle.zhevgulor.specs.declared.Answer.{Answer}
 use Rattle.zhevgulor.specs.Told.{answerFor, leadFor, LentAs, checkedIn}
 
@@ -133,3 +135,8 @@ module _ (j : Job) (starts : List ℕ) (a b link : ℕ) (l : Led) (same : ledOf 
 
   pub lead-refused : (r : Refusal) (n p : ℕ) → l ≡ LeadRefused r → n ≡ numberPlace r .0 → p ≡ numberPlace r .1 → leadFor (refused n p) ≡ leadFor (led j starts a b link)
   lead-refused r n p e f g = rw (f, g) (ap leadFor (sym (ap ledOf e) ∙ same))
+
+-- ---- the plan's text
+
+pub text-told : (o : Outcome (List ℕ)) {w : Written} {told : Answer} {lent after : List ℕ} → WrittenAs o w lent after → told ≡ answerFor (writtenOf w) → LentAs o told lent after
+text-told o w t = record { answered = t ∙ ap answerFor (w .bytes); list = w .room }

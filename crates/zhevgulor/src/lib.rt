@@ -4,15 +4,17 @@ ghost use mathlib.Core.List.{[], _∷_};
 ghost use lib.ListN.{length};
 ghost use Rattle.rules.specs.Outcome.{is, onward};
 ghost use Rattle.rules.specs.Tables.{tables as tablesVerdict};
-ghost use Rattle.rules.specs.Answers.{planned, led, inRoom};
+ghost use Rattle.rules.specs.Answers.{planned, led, inRoom, written};
 ghost use Rattle.job.specs.Lists.{jobOf};
 ghost use Rattle.job.specs.Told.{refusalOf};
+ghost use Rattle.writer.specs.Told.{writtenOf};
 ghost use Rattle.zhevgulor.specs.Told.{answerFor, leadFor, LentAs, checkedIn};
 use job::Refusal;
 use job::Step;
 use job::Verdict;
 use planner::Checked;
 use planner::Led;
+use writer::Written;
 
 // Refusal 0 and a value, or a refusal's number and its place.
 #[repr(C)]
@@ -168,4 +170,31 @@ pub extern "C" fn zhevgulor_lead(
             lead: 0,
         },
     }
+}
+
+fn told(text: Written) -> Answer
+    ensures { λ r. ⌜ r ≡ answerFor (writtenOf text) ⌝ }
+{
+    match text {
+        Written::Bytes(count) => value(count),
+        Written::Refused(refusal) => refused(refusal),
+    }
+}
+
+// The plan's text of a job with starts made elsewhere: value is the number of bytes, which stand in the first places.
+#[no_mangle]
+pub extern "C" fn zhevgulor_plan_text(
+    nodes: u16,
+    origins: &[u16],
+    ends: &[u16],
+    sources: &[u16],
+    stops: &[u16],
+    hops: &[u16],
+    starts: &[u16],
+    room: &mut [u8],
+) -> Answer
+    ensures { λ r. ⌜ LentAs (written (jobOf nodes (now (origins .entry)) (now (ends .entry)) (now (sources .entry)) (now (stops .entry)) (now (hops .entry))) (now (starts .entry)) (length (now (room .entry)))) r (now (room .entry)) (now (room .exit)) ⌝ }
+{
+    let text = writer::write(nodes, origins, ends, sources, stops, hops, starts, room);
+    told(text)
 }

@@ -1,0 +1,31 @@
+-- `zhevgulor::told` meets its contract.
+use mathlib.Core.Path.{_∙_, sym, ap}
+use Rattle.zhevgulor.specs.declared.Answer.{Answer}
+use Rattle.zhevgulor.specs.Told.{answerFor}
+use Rattle.writer.specs.Told.{writtenOf}
+use borrow.Author.Needs.{needs}
+use Rattle.zhevgulor.proofs.told.Statement.{statement}
+use Rattle.zhevgulor.proofs.told.Tie as tie
+
+enum-known-text : tie.Need-enum-known-text
+enum-known-text c = search needs
+
+value-requires : tie.Need-value-requires
+value-requires c κs = search needs
+
+enum-known-text-2 : tie.Need-enum-known-text-2
+enum-known-text-2 c = search needs
+
+refused-requires : tie.Need-refused-requires
+refused-requires c κs = search needs
+
+returns : tie.Need-returns
+returns c = c .value .ensures ∙ ap {B = Answer} (λ w. answerFor (writtenOf w)) (sym (c .before .before .text .given .1))
+
+returns-2 : tie.Need-returns-2
+returns-2 c = c .refused .ensures ∙ ap {B = Answer} (λ w. answerFor (writtenOf w)) (sym (c .before .before .text2 .given .1))
+
+pub told-spec : {M : Type 1} → statement M
+told-spec =
+    tie.close
+    (tie.spec enum-known-text value-requires enum-known-text-2 refused-requires returns returns-2)
