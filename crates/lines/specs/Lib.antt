@@ -1,1 +1,4 @@
+pub mod Cursor
+pub mod Fields
+pub mod Pieces
 pub mod Put

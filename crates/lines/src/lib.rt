@@ -1,2 +1,3 @@
-// Numbers and lines as bytes.
+// Text by lines, fields and numbers.
+pub mod reading;
 pub mod writing;
