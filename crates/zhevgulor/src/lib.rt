@@ -8,6 +8,7 @@ ghost use Rattle.rules.specs.Answers.{planned, led, inRoom, written};
 ghost use Rattle.job.specs.Lists.{jobOf};
 ghost use Rattle.job.specs.Told.{refusalOf};
 ghost use Rattle.writer.specs.Told.{writtenOf};
+ghost use Rattle.answer.specs.Told.{answered};
 ghost use Rattle.zhevgulor.specs.Told.{answerFor, leadFor, LentAs, checkedIn};
 use job::Refusal;
 use job::Step;
@@ -196,5 +197,14 @@ pub extern "C" fn zhevgulor_plan_text(
     ensures { λ r. ⌜ LentAs (written (jobOf nodes (now (origins .entry)) (now (ends .entry)) (now (sources .entry)) (now (stops .entry)) (now (hops .entry))) (now (starts .entry)) (length (now (room .entry)))) r (now (room .entry)) (now (room .exit)) ⌝ }
 {
     let text = writer::write(nodes, origins, ends, sources, stops, hops, starts, room);
+    told(text)
+}
+
+// From a job's text to its plan's text: value is the number of bytes, which stand in the first places.
+#[no_mangle]
+pub extern "C" fn zhevgulor_plan(job: &[u8], room: &mut [u8]) -> Answer
+    ensures { λ r. ⌜ LentAs (answered (now (job .entry)) (length (now (room .entry)))) r (now (room .entry)) (now (room .exit)) ⌝ }
+{
+    let text = answer::answer(job, room);
     told(text)
 }

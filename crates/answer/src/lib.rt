@@ -1,0 +1,88 @@
+// From a job's text to its plan's text: reader, planner and writer in a row.
+ghost use mathlib.Core.Path.{_≡_};
+ghost use Rattle.rules.specs.Outcome.{onward};
+ghost use lib.ListN.{length};
+ghost use Rattle.rules.specs.Answers.{planned, written};
+ghost use Rattle.job.specs.Lists.{jobOf};
+ghost use Rattle.writer.specs.Told.{WrittenAs};
+ghost use Rattle.answer.specs.Told.{answered};
+use job::Job;
+use job::Verdict;
+use reader::Reading;
+use writer::Written;
+
+// The greedy plan of a job as lists, whose starts are found in a lent list.
+fn plan_text(
+    nodes: u16,
+    origins: &[u16],
+    ends: &[u16],
+    sources: &[u16],
+    stops: &[u16],
+    hops: &[u16],
+    starts: &mut [u16],
+    room: &mut [u8],
+) -> Written
+    ensures { λ r. ⌜ WrittenAs (onward (planned (jobOf nodes (now (origins .entry)) (now (ends .entry)) (now (sources .entry)) (now (stops .entry)) (now (hops .entry))) (length (now (starts .entry)))) (λ found. written (jobOf nodes (now (origins .entry)) (now (ends .entry)) (now (sources .entry)) (now (stops .entry)) (now (hops .entry))) found (length (now (room .entry))))) r (now (room .entry)) (now (room .exit)) ⌝ }
+{
+    let verdict = planner::plan(nodes, origins, ends, sources, stops, hops, starts);
+    match verdict {
+        Verdict::Refused(refusal) => {
+            return Written::Refused(refusal);
+        }
+        Verdict::Fine => {}
+    }
+    let packets = sources.len();
+    writer::write(
+        nodes,
+        origins,
+        ends,
+        sources,
+        stops,
+        hops,
+        &starts[0..packets],
+        room,
+    )
+}
+
+fn wide(x: u16) -> usize
+    ensures { λ r. ⌜ r ≡ x ⌝ }
+{
+    x as usize
+}
+
+// The plan's bytes for a job's bytes, in the lent room.
+pub fn answer(text: &[u8], room: &mut [u8]) -> Written
+    ensures { λ r. ⌜ WrittenAs (answered (now (text .entry)) (length (now (room .entry)))) r (now (room .entry)) (now (room .exit)) ⌝ }
+{
+    let mut origins = [0; Job::LINKS];
+    let mut ends = [0; Job::LINKS];
+    let mut sources = [0; Job::PACKETS];
+    let mut stops = [0; Job::PACKETS];
+    let mut hops = [0; Job::HOPS];
+    let reading = reader::read(
+        text,
+        &mut origins,
+        &mut ends,
+        &mut sources,
+        &mut stops,
+        &mut hops,
+    );
+    match reading {
+        Reading::Refused(refusal) => Written::Refused(refusal),
+        Reading::Read(job) => {
+            let mut starts = [0; Job::PACKETS];
+            let links = wide(job.links);
+            let packets = wide(job.packets);
+            plan_text(
+                job.nodes,
+                &origins[0..links],
+                &ends[0..links],
+                &sources[0..packets],
+                &stops[0..packets],
+                &hops[0..wide(job.hops)],
+                &mut starts,
+                room,
+            )
+        }
+    }
+}
