@@ -1,3 +1,4 @@
 pub mod InARow
 pub mod Reading
 pub mod Obeys
+pub mod Printing

@@ -9,11 +9,10 @@ use Rattle.rules.specs.Outcome.{is, must}
 use Rattle.rules.specs.Greedy.{greedy}
 use Rattle.rules.specs.JobText.{reading}
 use Rattle.rules.specs.PlanText.{planText}
-use Rattle.rules.specs.Answers.{answer, inRoom}
+use Rattle.rules.specs.Answers.{inRoom, answer, answered}
 use Rattle.theorems.specs.Demands.{Bounded}
 use Rattle.theorems.proofs.Verdicts.{is-iff, onward-is, then-is-iff}
 use Rattle.theorems.proofs.Demands.{text-bounded}
-use Rattle.answer.specs.Told.{answered}
 
 pub record Obeyed (text plan : List ℕ) : Type 0 where
   pub job : Job

@@ -13,7 +13,7 @@ use Rattle.rules.specs.Greedy.{greedy}
 use Rattle.rules.specs.Bytes.{lineFeed, split}
 use Rattle.rules.specs.JobText.{reading, allLines}
 use Rattle.rules.specs.PlanText.{planText}
-use Rattle.rules.specs.Answers.{startedVerdict, inRoom, planned, written, answer, lentAfter}
+use Rattle.rules.specs.Answers.{startedVerdict, inRoom, planned, written, answer, answered, lentAfter}
 use Rattle.theorems.proofs.Verdicts.{refused-not-is, is-iff, onward-is, onward-of}
 use Rattle.theorems.proofs.TextJobs.{reading-job, reading-accepted}
 use Rattle.theorems.proofs.Started.{greedy-started}
@@ -30,7 +30,6 @@ use Rattle.reader.proofs.Accepts.{read-stands}
 use Rattle.writer.specs.declared.Written.{Written}
 use Rattle.writer.specs.declared.Written.the-variants.{Refused as TextRefused}
 use Rattle.writer.specs.Told.{WrittenAs}
-use Rattle.answer.specs.Told.{answered}
 
 -- lists that have their sizes are never refused
 read-in : (text : List ℕ) (lent : Lists) → roomy lent ≡ true → readIn text lent ≡ reading text

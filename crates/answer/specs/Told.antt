@@ -1,9 +1,12 @@
--- Document 01, "Refusals and their order": the C function from a job's bytes to its plan's bytes.
+-- Document 01, "Job text and plan text": what `plan` prints, in a lent room.
+use mathlib.Core.Path.{_≡_}
 use mathlib.Core.List.{List}
 use Prim.Native.Nat.{ℕ}
-use Rattle.rules.specs.Outcome.{Outcome, onward}
-use Rattle.rules.specs.Answers.{inRoom, answer}
+use lib.ListN.{length}
+use Rattle.rules.specs.Outcome.{is}
+use Rattle.rules.specs.Answers.{lentAfter}
 
--- the one answer from bytes, with room for so many: 10 comes after every other refusal
-unfoldable pub answered : List ℕ → ℕ → Outcome (List ℕ)
-answered text room = onward (answer text) (λ plan. inRoom plan room)
+-- a text that is printed: the number of its bytes, and the lent room afterwards
+pub record PrintedAs (text : List ℕ) (count : ℕ) (lent after : List ℕ) : Type 0 where
+  pub bytes : count ≡ length text
+  pub room : after ≡ lentAfter (is text) lent

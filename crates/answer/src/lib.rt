@@ -1,13 +1,15 @@
-// From a job's text to its plan's text: reader, planner and writer in a row.
+// From a job's text to its plan's text, and to what is printed: reader, planner and writer in a row.
 ghost use mathlib.Core.Path.{_≡_};
+ghost use Prim.Native.Nat.{_≤_};
 ghost use Rattle.rules.specs.Outcome.{onward};
 ghost use lib.ListN.{length};
-ghost use Rattle.rules.specs.Answers.{planned, written};
+ghost use Rattle.rules.specs.Answers.{answered, planned, plans, written};
 ghost use Rattle.job.specs.Lists.{jobOf};
 ghost use Rattle.writer.specs.Told.{WrittenAs};
-ghost use Rattle.answer.specs.Told.{answered};
+ghost use Rattle.answer.specs.Told.{PrintedAs};
 use job::Job;
 use job::Verdict;
+use lines::writing;
 use reader::Reading;
 use writer::Written;
 
@@ -83,6 +85,25 @@ pub fn answer(text: &[u8], room: &mut [u8]) -> Written
                 &mut starts,
                 room,
             )
+        }
+    }
+}
+
+// Every plan fits in so many bytes.
+pub const ROOM: usize = 19473;
+
+// What the program `plan` prints for a job's bytes, the plan or the line that tells why there is none, and how many bytes it is.
+pub fn print(text: &[u8], room: &mut [u8; ROOM]) -> usize
+    ensures { λ r. ⌜ PrintedAs (plans (now (text .entry))) r (now (room .entry)) (now (room .exit)) ⌝ }
+    ensures near { λ r. ⌜ r ≤ length (now (room .exit)) ⌝ }
+{
+    let told = answer(text, room);
+    match told {
+        Written::Bytes(bytes) => bytes as usize,
+        Written::Refused(refusal) => {
+            let number = refusal.number();
+            let place = refusal.place();
+            writing::line_of_two(room, 0, b'R', number, place)
         }
     }
 }

@@ -110,11 +110,14 @@ fn add_link(
     ensures { λ r. ⌜ ((ss ts hs : List ℕ) → Room (lists (now (origins .entry)) (now (ends .entry)) ss ts hs) → Took (withLine line (soFar job (lists (now (origins .entry)) (now (ends .entry)) ss ts hs)) (link from to)) r (lists (now (origins .exit)) (now (ends .exit)) ss ts hs)) ⌝ }
 {
     let links = wide(job.links);
-    if job.packets != 0 {
-        return Reading::Refused(Refusal::BadForm(line));
+    let packets = wide(job.packets);
+    let out_of_place = Refusal::BadForm(line);
+    let too_many = Refusal::Size(line);
+    if packets > 0 {
+        return Reading::Refused(out_of_place);
     }
     if links >= Job::LINKS {
-        return Reading::Refused(Refusal::Size(line));
+        return Reading::Refused(too_many);
     }
     let verdict = link_verdict(job.nodes, from, to, line);
     match verdict {

@@ -55,6 +55,10 @@ written j starts room = startedVerdict j starts then inRoom (planText j starts) 
 unfoldable pub answer : List ℕ → Outcome (List ℕ)
 answer text = onward (reading text) (λ j. is (planText j (greedy j)))
 
+-- and with room for so many bytes
+unfoldable pub answered : List ℕ → ℕ → Outcome (List ℕ)
+answered text room = onward (answer text) (λ plan. inRoom plan room)
+
 -- an answer as it is printed
 unfoldable pub printed : Outcome (List ℕ) → List ℕ
 printed (is text) = text

@@ -23,4 +23,5 @@ pub mod TextJobs
 pub mod TextFronts
 pub mod TextWritten
 pub mod TextExact
+pub mod TextRefusals
 pub mod Rows

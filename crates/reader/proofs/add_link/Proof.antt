@@ -8,11 +8,14 @@ use Rattle.reader.proofs.add_link.Tie as tie
 wide-requires : tie.Need-wide-requires
 wide-requires c κs = search needs
 
+wide-requires-2 : tie.Need-wide-requires-2
+wide-requires-2 c κs = search needs
+
 returns : tie.Need-returns
-returns c = λ ss ts hs room. link-below-packet _ _ _ room (c .before .before .before .before .before .pre .0) _ _ (c .if1 .taken)
+returns c = λ ss ts hs room. link-below-packet _ _ _ room (c .before .before .before .before .before .pre .0) _ _ (λ e. omega (arith, e))
 
 returns-2 : tie.Need-returns-2
-returns-2 c = λ ss ts hs room. link-over _ _ _ room (c .before .before .before .before .before .before .pre .0) _ _ (c .before .if1 .left) (omega arith)
+returns-2 c = λ ss ts hs room. link-over _ _ _ room (c .before .before .before .before .before .before .pre .0) _ _ (omega (arith, c .before .if1 .left)) (omega arith)
 
 link-verdict-requires : tie.Need-link-verdict-requires
 link-verdict-requires c κs = search needs
@@ -35,13 +38,13 @@ mul-ends c = search needs
 slice-write-ends : tie.Need-slice-write-ends
 slice-write-ends c = search needs
 
-add-t17 : tie.Need-add-t17
-add-t17 c = search needs
+add-t18 : tie.Need-add-t18
+add-t18 c = search needs
 
 returns-3 : tie.Need-returns-3
 returns-3 c =
     let w = c .before .before .before in
-    λ ss ts hs room. link-refused _ _ _ room (w .before .before .before .before .before .before .before .pre .0) _ _ (w .before .before .if1 .left) (omega arith) (c .before .verdict .given .1) (w .link-verdict .ensures)
+    λ ss ts hs room. link-refused _ _ _ room (w .before .before .before .before .before .before .before .pre .0) _ _ (omega (arith, w .before .before .if1 .left)) (omega arith) (c .before .verdict .given .1) (w .link-verdict .ensures)
 
 same-length : tie.Need-same-length
 same-length c = search needs
@@ -52,13 +55,14 @@ same-length-2 c = search needs
 returns-4 : tie.Need-returns-4
 returns-4 c =
     let w = c .before .before .before in
-    λ ss ts hs room. link-added _ _ _ room (w .before .before .before .before .before .before .before .pre .0) _ _ (w .before .before .if1 .left) (omega arith) (c .before .enum-told .given .1) (w .link-verdict .ensures) (w .before .before .before .before .wide .ensures)
+    λ ss ts hs room. link-added _ _ _ room (w .before .before .before .before .before .before .before .pre .0) _ _ (omega (arith, w .before .before .if1 .left)) (omega arith) (c .before .enum-told .given .1) (w .link-verdict .ensures) (w .before .before .before .before .wide .ensures)
 
 pub add-link-spec : {M : Type 1} → statement M
 add-link-spec =
     tie.close
     (tie.spec
     wide-requires
+    wide-requires-2
     returns
     returns-2
     link-verdict-requires
@@ -68,7 +72,7 @@ add-link-spec =
     slice-write-origins
     mul-ends
     slice-write-ends
-    add-t17
+    add-t18
     returns-3
     same-length
     same-length-2
