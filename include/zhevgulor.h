@@ -1,0 +1,152 @@
+/* zhevgulor.h: the planner of start steps, for programs written in C.
+ *
+ * Links cannot hold a packet back and every packet's path is given, so all there is to plan is the step in which each packet sets
+ * out. Packets stand in a list; each gets the earliest step in which it meets nobody above it in the list on any link.
+ *
+ *     uint8_t plan[ZHEVGULOR_PLAN_BYTES];
+ *     zhevgulor_answer answer = zhevgulor_plan(job, job_bytes, plan, sizeof plan);
+ *     if (answer.refusal == 0)
+ *         fwrite(plan, 1, answer.value, stdout);
+ *     else
+ *         fprintf(stderr, "refusal %u at %u\n", (unsigned)answer.refusal, (unsigned)answer.value);
+ *
+ * Everything is counted from 0, except the lines of a text, which are counted from 1. A packet that starts in step s enters the
+ * first link of its path in step s, the second in step s + 1, and so on; its end is s plus the number of its hops.
+ *
+ * ANSWERS. Every function answers every input. If the member `refusal` of an answer is 0, the input was taken, and the function's
+ * comment says what the other member holds. Otherwise `refusal` is a number from this table, and the place stands in `value`, or
+ * in `place` where the answer is a lead.
+ *
+ *   no. | what is wrong                                                     | place in a text | place in lists
+ *   ----+-------------------------------------------------------------------+-----------------+-----------------------
+ *    1  | the text has more than ZHEVGULOR_TEXT_BYTES bytes                 | 0               |
+ *    2  | a line is not written as the lines of a job are                   | the line        |
+ *    3  | no node at all, or more of something than the macros below allow  | the line        | the packet, if its own
+ *       |                                                                   |                 | path is too long; or 0
+ *    4  | a node that does not exist                                        | the line        | the link or the packet
+ *    5  | a link ends where it begins                                       | the line        | the link
+ *    6  | a path names a link that does not exist                           | the line        | the packet
+ *    7  | a link of a path begins elsewhere than the packet has come to     | the line        | the packet
+ *    8  | a path comes back to a node                                       | the line        | the packet
+ *    9  | the lists do not fit together                                     |                 | 0
+ *   10  | the list lent for the answer is too short                         | 0               | 0
+ *   11  | there are more starts than packets, or fewer                      |                 | 0
+ *   12  | a start is over ZHEVGULOR_LATEST_START                            |                 | the first such packet
+ *   13  | a lead of a packet over itself, of a packet that does not exist,  |                 | 0
+ *       | or on a link that is not on both paths                            |                 |
+ *
+ * If several things are wrong, one is told. In a text: 1; else the first line with trouble, and on it the lowest number, but of 6,
+ * 7 and 8 the one at the earliest hop. In lists: 9; else 3 with place 0; else the first link with trouble, 4 before 5; else the
+ * first packet with trouble, 3 before 4 before its hops, and these as in a text. Only then 11, then 12, then 13; and 10 after
+ * everything else.
+ *
+ * LENT LISTS. A list is a pointer and the number of its elements. The list that an answer is written to is lent by the caller. A
+ * refusal leaves it as it was. Otherwise the answer is put in its first elements and the rest stays as it was: a plan has no
+ * closing zero byte. All other lists are only read. A list may always be longer than needed; ZHEVGULOR_PLAN_BYTES bytes,
+ * ZHEVGULOR_PACKETS starts and ZHEVGULOR_CLASH numbers are enough for every answer.
+ *
+ * POINTERS. Beside the number 0 a pointer may be null, and is not followed in any case. Every other pointer must be aligned for its
+ * type and lead to as many elements as are said. The lent list must not overlap a list that is read. Lists that are read may
+ * overlap each other. What stands in them is free: no text and no value in a list does any harm.
+ *
+ * THREADS. Nothing is kept from one call to the next: the functions have no variables outside the call and use no heap, no file,
+ * no clock and no lock. They may be called from any number of threads and from signal handlers, at the same time and on the same
+ * inputs, as long as nobody writes to the lists of a call while it runs.
+ *
+ * STACK. All working space is on the caller's stack. Measured over the calls of the tests, with the frame of the calling function,
+ * zhevgulor_plan took up to 64,440 bytes, zhevgulor_plan_text up to 9,128 and the others less than 600. tests/run measures anew
+ * and fails if a call takes more than ZHEVGULOR_STACK_BYTES, which leaves room above that.
+ */
+#ifndef ZHEVGULOR_H
+#define ZHEVGULOR_H
+
+#include <stddef.h>
+#include <stdint.h>
+
+#ifdef __cplusplus
+extern "C" {
+#endif
+
+/* The most of each thing that a job may have. A job has at least one node; of all else it may have none. */
+#define ZHEVGULOR_TEXT_BYTES   65535 /* bytes of its text */
+#define ZHEVGULOR_NODES        1024
+#define ZHEVGULOR_LINKS        4096  /* each one-way */
+#define ZHEVGULOR_PACKETS      1024
+#define ZHEVGULOR_PATH_HOPS    255   /* hops of one path */
+#define ZHEVGULOR_HOPS         16384 /* hops of all paths together */
+
+#define ZHEVGULOR_LATEST_START 32767 /* the latest start that is taken from outside */
+
+/* What is enough for every call. */
+#define ZHEVGULOR_PLAN_BYTES   19473 /* bytes for a plan */
+#define ZHEVGULOR_CLASH        4     /* numbers for a clash */
+#define ZHEVGULOR_STACK_BYTES  98304 /* bytes of stack */
+
+/* See ANSWERS. */
+typedef struct {
+    uint32_t refusal;
+    uint32_t value;
+} zhevgulor_answer;
+
+typedef struct {
+    uint32_t refusal;
+    uint32_t place; /* 0 unless refused */
+    int32_t lead;   /* 0 if refused */
+} zhevgulor_lead_answer;
+
+/* From a job's text to its plan's text. On success `value` is the number of bytes written to `room`.
+ *
+ * The job, with one tab between two fields and one line feed after every line, the last one too:
+ *     N  number of nodes                     one line, the first
+ *     L  node it leaves  node it enters      one line for each link, in order
+ *     P  source  links of the path ...       one line for each packet, in order, below all L lines
+ * Numbers are decimal, without sign or leading zero, and at most 65535.
+ *
+ * The plan, written likewise:
+ *     S  packet  start  end                  one line for each packet, in order
+ *     T  routing time  C  D                  the greatest end, the most packets on one link, the hops of the longest path
+ */
+zhevgulor_answer zhevgulor_plan(const uint8_t *job, size_t job_bytes, uint8_t *room, size_t room_bytes);
+
+/* A job as lists. Link i goes from node origins[i] to node ends[i]. Packet k sets out at node sources[k]; the links of its path
+ * stand in `hops` from where the path of packet k - 1 stops (from 0 for packet 0) up to, not including, position stops[k].
+ * The last stop is therefore the number of hops. */
+#define ZHEVGULOR_LISTS \
+    uint16_t nodes, \
+    const uint16_t *origins, size_t origins_count, \
+    const uint16_t *ends, size_t ends_count, \
+    const uint16_t *sources, size_t sources_count, \
+    const uint16_t *stops, size_t stops_count, \
+    const uint16_t *hops, size_t hops_count
+
+/* Are the lists a job? On success `value` is 0. Every function below asks this first and refuses as this one does. */
+zhevgulor_answer zhevgulor_tables(ZHEVGULOR_LISTS);
+
+/* The planned starts. On success `value` is the number of packets, and starts[k] is the start of packet k, at most 16384. */
+zhevgulor_answer zhevgulor_starts(ZHEVGULOR_LISTS, uint16_t *starts, size_t starts_count);
+
+/* Do given starts keep all packets apart? On success `value` is
+ *   0 if no two packets enter one link in one step: then nothing is written;
+ *   ZHEVGULOR_CLASH if two do: then clash[0] is the first packet in the list that meets one above it, clash[1] the packet that it
+ *     meets, clash[2] the link, the first on the path of clash[0] where it meets anybody, and clash[3] the step.
+ * With no clash there is nothing to write, so that a list of any length will do. */
+zhevgulor_answer zhevgulor_check(ZHEVGULOR_LISTS, const uint16_t *starts, size_t starts_count,
+                                 uint32_t *clash, size_t clash_count);
+
+/* By how many steps packet a enters the link later than packet b, under given starts: on success `lead` is negative if a is ahead,
+ * 0 exactly if the two enter the link in the same step, and from -33021 to 33021. */
+zhevgulor_lead_answer zhevgulor_lead(ZHEVGULOR_LISTS, const uint16_t *starts, size_t starts_count,
+                                     uint16_t a, uint16_t b, uint16_t link);
+
+/* The plan's text, as zhevgulor_plan writes it, for given starts, whether or not packets clash under them. On success `value`
+ * is the number of bytes written to `room`. */
+zhevgulor_answer zhevgulor_plan_text(ZHEVGULOR_LISTS, const uint16_t *starts, size_t starts_count,
+                                     uint8_t *room, size_t room_bytes);
+
+#undef ZHEVGULOR_LISTS
+
+#ifdef __cplusplus
+}
+#endif
+
+#endif

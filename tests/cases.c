@@ -1,0 +1,236 @@
+/* cases.c: see cases.h. */
+#include "cases.h"
+
+#include <stdarg.h>
+#include <stdio.h>
+#include <stdlib.h>
+#include <string.h>
+
+long passed, failed;
+char label[200];
+struct outcome planner;
+long given[FUNCTIONS][REFUSALS];
+long clashes;
+int keeping;
+struct kept *kept;
+size_t kept_count;
+
+void name_cases(const char *format, ...)
+{
+    va_list words;
+    va_start(words, format);
+    vsnprintf(label, sizeof label, format, words);
+    va_end(words);
+}
+
+void expect(int holds, const char *format, ...)
+{
+    if (holds) {
+        passed++;
+        return;
+    }
+    failed++;
+    va_list words;
+    va_start(words, format);
+    printf("FAILED: ");
+    vprintf(format, words);
+    printf("\n");
+    va_end(words);
+}
+
+int same(const struct call *call, const struct outcome *outcome, const struct answer *answer, const uint8_t *lent)
+{
+    return outcome->trouble == NULL
+        && outcome->answer.refusal == answer->refusal
+        && outcome->answer.value == answer->value
+        && outcome->answer.lead == answer->lead
+        && memcmp(outcome->lent, lent, lent_bytes(call)) == 0;
+}
+
+/* ---- Cases that fail are saved ---- */
+
+enum { MOST_SAVED = 5 }; /* of each function */
+
+static void print_bytes(FILE *file, const char *name, const uint8_t *byte, size_t bytes)
+{
+    fprintf(file, "%s (%zu bytes): \"", name, bytes);
+    for (size_t i = 0; i < bytes; i++)
+        if (byte[i] == '\t')
+            fprintf(file, "\\t");
+        else if (byte[i] == '\n')
+            fprintf(file, "\\n");
+        else if (byte[i] < 32 || byte[i] > 126 || byte[i] == '"' || byte[i] == '\\')
+            fprintf(file, "\\%03o", byte[i]);
+        else
+            fputc(byte[i], file);
+    fprintf(file, "\"\n");
+}
+
+static void print_list(FILE *file, const char *name, const uint16_t *list, size_t count)
+{
+    fprintf(file, "%s (%zu):", name, count);
+    for (size_t i = 0; i < count; i++)
+        fprintf(file, " %d", list[i]);
+    fprintf(file, "\n");
+}
+
+static void print_call(FILE *file, const struct call *c)
+{
+    fprintf(file, "%s: %s\nlent: %zu\n", function_name[c->function], label, c->lent);
+    if (c->function == PLAN) {
+        print_bytes(file, "job", c->text, c->text_bytes);
+        return;
+    }
+    fprintf(file, "nodes: %d\n", c->lists.nodes);
+    print_list(file, "origins", c->lists.origins, c->lists.origins_count);
+    print_list(file, "ends", c->lists.ends, c->lists.ends_count);
+    print_list(file, "sources", c->lists.sources, c->lists.sources_count);
+    print_list(file, "stops", c->lists.stops, c->lists.stops_count);
+    print_list(file, "hops", c->lists.hops, c->lists.hops_count);
+    print_list(file, "starts given", c->starts, c->starts_count);
+    fprintf(file, "packets and link: %d %d %d\n", c->a, c->b, c->link);
+}
+
+static void print_answer(FILE *file, const char *name, const struct outcome *o)
+{
+    fprintf(file, "%s: refusal %u, value or place %u, lead %d%s%s\n", name, o->answer.refusal, o->answer.value, o->answer.lead,
+            o->trouble ? "; " : "", o->trouble ? o->trouble : "");
+}
+
+static void print_lent(FILE *file, const struct call *c, const struct outcome *o)
+{
+    static const char name[] = "  lent list afterwards";
+    if (c->function == STARTS) {
+        print_list(file, name, lent_starts(o), c->lent);
+    } else if (c->function == CHECK) {
+        fprintf(file, "%s (%zu):", name, c->lent);
+        for (size_t i = 0; i < c->lent; i++)
+            fprintf(file, " %u", lent_clash(o)[i]);
+        fprintf(file, "\n");
+    } else {
+        print_bytes(file, name, o->lent, lent_bytes(c));
+    }
+}
+
+static void save(const struct call *c, const struct outcome *simple)
+{
+    static int cases[FUNCTIONS];
+    const char *function = function_name[c->function];
+    int number = ++cases[c->function];
+    char name[100];
+    FILE *file;
+    if (number > MOST_SAVED) {
+        if (number == MOST_SAVED + 1)
+            printf("FAILED: more cases of %s, which are counted but not saved\n", function);
+        return;
+    }
+    sprintf(name, "target/tests/failed-%s-%d.txt", function, number);
+    printf("FAILED: %s: %s: saved as %s\n", function, label, name);
+    print_answer(stdout, "  planner", &planner);
+    print_answer(stdout, "  simple.c", simple);
+    if (memcmp(planner.lent, simple->lent, lent_bytes(c)) != 0)
+        printf("  the lent lists differ\n");
+    if ((file = fopen(name, "w")) == NULL) {
+        perror(name);
+        return;
+    }
+    print_call(file, c);
+    print_answer(file, "planner", &planner);
+    print_lent(file, c, &planner);
+    print_answer(file, "simple.c", simple);
+    print_lent(file, c, simple);
+    fclose(file);
+    sprintf(name, "target/tests/failed-%s-%d.job", function, number);
+    if (c->function == PLAN && (file = fopen(name, "w")) != NULL) { /* to be tried by hand */
+        fwrite(c->text, 1, c->text_bytes, file);
+        fclose(file);
+    }
+}
+
+/* ---- Cases that are kept ---- */
+
+static void *copy(const void *from, size_t bytes)
+{
+    void *to = malloc(bytes + 1);
+    if (to == NULL)
+        abort();
+    if (bytes > 0)
+        memcpy(to, from, bytes);
+    return to;
+}
+
+static void copy_list(const uint16_t **list, size_t count) { *list = copy(*list, count * sizeof **list); }
+
+static void keep(const struct call *c)
+{
+    static size_t room;
+    if (kept_count == room && (kept = realloc(kept, (room = 2 * room + 1000) * sizeof kept[0])) == NULL)
+        abort();
+    struct kept *k = &kept[kept_count++];
+    *k = (struct kept){ *c, planner.answer, copy(planner.lent, lent_bytes(c)), copy(label, strlen(label) + 1) };
+    k->call.text = copy(c->text, c->text_bytes);
+    copy_list(&k->call.lists.origins, c->lists.origins_count);
+    copy_list(&k->call.lists.ends, c->lists.ends_count);
+    copy_list(&k->call.lists.sources, c->lists.sources_count);
+    copy_list(&k->call.lists.stops, c->lists.stops_count);
+    copy_list(&k->call.lists.hops, c->lists.hops_count);
+    copy_list(&k->call.starts, c->starts_count);
+}
+
+/* ---- One case ---- */
+
+static void run(const struct call *c)
+{
+    static struct outcome simple;
+    ask_planner(c, &planner);
+    ask_simple(c, &simple);
+    if (!same(c, &planner, &simple.answer, simple.lent)) {
+        failed++;
+        save(c, &simple);
+        return;
+    }
+    passed++;
+    given[c->function][planner.answer.refusal]++;
+    clashes += c->function == CHECK && planner.answer.value == 4 && planner.answer.refusal == 0;
+    if (keeping)
+        keep(c);
+}
+
+void run_text(const struct text *text, size_t room)
+{
+    run(&(struct call){ .function = PLAN, .text = text->byte, .text_bytes = text->bytes, .lent = room });
+}
+
+void run_tables(const struct tables *tables) { run(&(struct call){ .function = TABLES, .lists = lists_of(tables) }); }
+
+void run_starts(const struct tables *tables, size_t places)
+{
+    run(&(struct call){ .function = STARTS, .lists = lists_of(tables), .lent = places });
+}
+
+void run_check(const struct tables *tables, const struct list *starts, size_t places)
+{
+    run(&(struct call){ .function = CHECK, .lists = lists_of(tables), .starts = starts->value, .starts_count = starts->count,
+                        .lent = places });
+}
+
+void run_lead(const struct tables *tables, const struct list *starts, int a, int b, int link)
+{
+    run(&(struct call){ .function = LEAD, .lists = lists_of(tables), .starts = starts->value, .starts_count = starts->count,
+                        .a = a, .b = b, .link = link });
+}
+
+void run_plan_text(const struct tables *tables, const struct list *starts, size_t room)
+{
+    run(&(struct call){ .function = PLAN_TEXT, .lists = lists_of(tables), .starts = starts->value, .starts_count = starts->count,
+                        .lent = room });
+}
+
+void run_lists(const struct tables *tables, const struct list *starts, struct rooms rooms)
+{
+    run_tables(tables);
+    run_starts(tables, rooms.starts);
+    run_check(tables, starts, rooms.clash);
+    run_lead(tables, starts, 0, 1, tables->hops.count > 0 ? tables->hops.value[0] : 0);
+    run_plan_text(tables, starts, rooms.plan);
+}

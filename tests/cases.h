@@ -1,0 +1,47 @@
+/* cases.h: one case: a call asked of the planner and of simple.c, and the two outcomes compared byte for byte. */
+#ifndef CASES_H
+#define CASES_H
+
+#include "calls.h"
+#include "jobs.h"
+
+extern long passed, failed;
+
+/* Where the cases that follow come from. */
+extern char label[200];
+void name_cases(const char *format, ...);
+
+/* Something beside the comparison that must hold. */
+void expect(int holds, const char *format, ...);
+
+/* The cases. Afterwards `planner` is what the planner did. */
+extern struct outcome planner;
+void run_text(const struct text *text, size_t room);
+void run_tables(const struct tables *tables);
+void run_starts(const struct tables *tables, size_t places);
+void run_check(const struct tables *tables, const struct list *starts, size_t places);
+void run_lead(const struct tables *tables, const struct list *starts, int a, int b, int link);
+void run_plan_text(const struct tables *tables, const struct list *starts, size_t room);
+
+/* All five functions that take lists. */
+struct rooms { size_t starts, clash, plan; };
+void run_lists(const struct tables *tables, const struct list *starts, struct rooms rooms);
+
+/* How often each function gave each refusal, 0 being none, and how often a clash was shown. */
+enum { REFUSALS = 14 };
+extern long given[FUNCTIONS][REFUSALS];
+extern long clashes;
+
+/* Cases that passed while `keeping` was set, to be asked again: of simple.c with each wrong rule, and for the use of stack. */
+struct kept {
+    struct call call;
+    struct answer answer;
+    uint8_t *lent;
+    char *label;
+};
+extern int keeping;
+extern struct kept *kept;
+extern size_t kept_count;
+int same(const struct call *call, const struct outcome *outcome, const struct answer *answer, const uint8_t *lent);
+
+#endif

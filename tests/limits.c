@@ -1,0 +1,431 @@
+/* limits.c: every limit, and one over it; rooms that are just enough, and one byte less. */
+#include "cases.h"
+#include "sections.h"
+
+#include <stdio.h>
+#include <stdlib.h>
+#include <string.h>
+
+#define COUNT(array) (sizeof (array) / sizeof (array)[0])
+
+static struct text text;
+static struct tables tables;
+static struct list starts;
+static struct job job;
+
+/* Texts with the network of line_network, path by path. */
+static void line_text(int nodes)
+{
+    clear_text(&text);
+    add(&text, "N\t%d\n", nodes);
+    for (int node = 0; node + 1 < nodes; node++)
+        add(&text, "L\t%d\t%d\n", node, node + 1);
+}
+
+static void add_path(int source, int first_link, int hops)
+{
+    add(&text, "P\t%d", source);
+    for (int hop = 0; hop < hops; hop++)
+        add(&text, "\t%d", first_link + hop);
+    add(&text, "\n");
+}
+
+/* The last line ends like this. */
+static void end_last_line(const char *end)
+{
+    text.bytes--;
+    add(&text, "%s", end);
+}
+
+/* As many starts as there are packets, all 0. */
+static void zero_starts(void)
+{
+    starts.count = 0;
+    while (starts.count < tables.sources.count)
+        push(&starts, 0);
+}
+
+/* The lists of `tables`, asked of every function, with rooms that are large enough. */
+static void run_tables_everywhere(void)
+{
+    zero_starts();
+    run_lists(&tables, &starts, (struct rooms){ 1025, 4, ROOM });
+}
+
+/* ---- Sizes ---- */
+
+/* Nodes, and numbers of nodes around their count. */
+static void limit_nodes(void)
+{
+    static const int count[] = { 0, 1, 2, 1023, 1024, 1025, 65535 };
+    for (size_t i = 0; i < COUNT(count); i++)
+        for (int node = count[i] > 0 ? count[i] - 1 : 0; node <= count[i] + 1 && node <= 65535; node++) {
+            name_cases("%d nodes, node %d", count[i], node);
+            clear_text(&text);
+            add(&text, "N\t%d\nP\t%d\n", count[i], node);
+            run_text(&text, SMALL_ROOM);
+            clear_text(&text);
+            add(&text, "N\t%d\nL\t0\t%d\nL\t%d\t0\n", count[i], node, node);
+            run_text(&text, SMALL_ROOM);
+            for (int turned = 0; turned < 2; turned++) {
+                clear_tables(&tables);
+                tables.nodes = (uint16_t)count[i];
+                push(&tables.origins, turned ? node : 0);
+                push(&tables.ends, turned ? 0 : node);
+                run_tables_everywhere();
+            }
+            clear_tables(&tables);
+            tables.nodes = (uint16_t)count[i];
+            push_path(&tables, node, 0, 0);
+            run_tables_everywhere();
+        }
+}
+
+static void limit_links(void)
+{
+    static const char *const last_line[] = { "L\t0\t1\n", "L\t0\t9\n", "L\t1\t1\n", "L\t0\t01\n", "L\t0\n", "L\t0\t1",
+                                             "P\t0\t4095\n", "P\t0\t4096\n" };
+    for (int links = 4095; links <= 4096; links++)
+        for (size_t i = 0; i < COUNT(last_line); i++) {
+            clear_text(&text);
+            add(&text, "N\t2\n");
+            for (int link = 0; link < links; link++)
+                add(&text, "L\t0\t1\n");
+            add(&text, "%s", last_line[i]);
+            name_cases("%d links and line %zu", links, i);
+            run_text(&text, ROOM);
+        }
+    static const int count[] = { 4095, 4096, 4097, 65535, 65536, 65537 };
+    for (size_t i = 0; i < COUNT(count); i++)
+        for (int mistake = 0; mistake < 4; mistake++) {
+            clear_tables(&tables);
+            tables.nodes = mistake == 1 ? 0 : 2;
+            for (int link = 0; link < count[i]; link++) {
+                push(&tables.origins, 0);
+                push(&tables.ends, mistake == 2 && link == count[i] - 1 ? 2 : 1);
+            }
+            push_path(&tables, 0, count[i] - 1, 1);
+            if (mistake == 3)
+                tables.ends.count--;
+            name_cases("%d links as lists, mistake %d", count[i], mistake);
+            run_tables_everywhere();
+        }
+}
+
+static void limit_packets(void)
+{
+    static const char *const last_line[] = { "P\t0\n", "P\t9\n", "P\t0\t0\n", "P\t0\t00\n", "P\t0", "L\t0\t1\n" };
+    for (int packets = 1023; packets <= 1024; packets++)
+        for (size_t i = 0; i < COUNT(last_line); i++) {
+            clear_text(&text);
+            add(&text, "N\t2\n");
+            for (int k = 0; k < packets; k++)
+                add(&text, "P\t%d\n", k % 2);
+            add(&text, "%s", last_line[i]);
+            name_cases("%d packets and line %zu", packets, i);
+            run_text(&text, ROOM);
+        }
+    static const int count[] = { 1023, 1024, 1025, 65535, 65536, 65537 };
+    for (size_t i = 0; i < COUNT(count); i++)
+        for (int mistake = 0; mistake < 6; mistake++) {
+            size_t last = (size_t)count[i] - 1;
+            clear_tables(&tables);
+            tables.nodes = mistake == 1 ? 0 : 2;
+            for (int k = 0; k < count[i]; k++)
+                push_path(&tables, 1, 0, 0);
+            switch (mistake) {
+            case 2: tables.sources.value[last] = 2; break;
+            case 3: tables.stops.value[last - 1] = 1; break; /* the stops fall */
+            case 4: tables.stops.count--; break;
+            case 5: tables.stops.value[last] = 1; break;
+            }
+            name_cases("%d packets as lists, mistake %d", count[i], mistake);
+            run_tables_everywhere();
+            if (mistake == 0 && count[i] <= 1024) {
+                name_cases("places for %d starts, just enough and one fewer", count[i]);
+                run_starts(&tables, (size_t)count[i]);
+                run_starts(&tables, last);
+            }
+        }
+}
+
+static void limit_path(void)
+{
+    static const char *const end[] = { "\n", "\t\n", "\t01\n", "", "\t255\n", "\t0\n", "\t9999\n" };
+    for (int hops = 254; hops <= 257; hops++)
+        for (size_t i = 0; i < COUNT(end); i++)
+            for (int source = 0; source <= 300; source += 300) {
+                line_text(260);
+                add_path(0, 0, 3);
+                add_path(source, 0, hops);
+                end_last_line(end[i]);
+                name_cases("path of %d hops from %d, end %zu", hops, source, i);
+                run_text(&text, ROOM);
+            }
+    for (int hops = 254; hops <= 257; hops++)
+        for (int mistake = 0; mistake < 6; mistake++) {
+            line_network(&tables, 260);
+            push_path(&tables, mistake == 5 ? 260 : 0, 0, 3);
+            push_path(&tables, 2, 2, mistake == 4 ? hops : 5);
+            push_path(&tables, mistake == 1 ? 260 : 0, mistake == 2 ? 4 : 0, hops);
+            push_path(&tables, mistake == 3 ? 260 : 4, 4, 2);
+            name_cases("path of %d hops as lists, mistake %d", hops, mistake);
+            run_tables_everywhere();
+        }
+}
+
+/* Hops in all. A text has room for so many only if their links have small numbers. */
+static void limit_hops(void)
+{
+    static const char *const end[] = { "\n", "\t01\n", "", "\t9999\n" };
+    for (int last_hops = 83; last_hops <= 86; last_hops++)
+        for (size_t i = 0; i <= COUNT(end); i++) {
+            int source = i < COUNT(end) ? 0 : 300;
+            line_text(101);
+            for (int k = 0; k < 163; k++)
+                add_path(0, 0, 100);
+            add_path(source, 0, last_hops);
+            end_last_line(i < COUNT(end) ? end[i] : "\n");
+            name_cases("%d hops in all, end %zu, source %d", 16300 + last_hops, i, source);
+            run_text(&text, ROOM);
+        }
+    for (int last_hops = 63; last_hops <= 66; last_hops++)
+        for (int mistake = 0; mistake < 5; mistake++) {
+            line_network(&tables, 300);
+            for (int k = 0; k < 64; k++)
+                push_path(&tables, 0, 0, 255);
+            push_path(&tables, mistake == 1 ? 300 : 0, 0, last_hops);
+            switch (mistake) {
+            case 2: tables.ends.value[0] = 300; break;
+            case 3: tables.stops.value[64]++; break;
+            case 4: tables.stops.value[30] = 0; break;
+            }
+            name_cases("%d hops in all as lists, mistake %d", 16320 + last_hops, mistake);
+            run_tables_everywhere();
+        }
+    static const int count[] = { 255, 16384, 16385, 65534, 65535, 65536, 65537 };
+    for (size_t i = 0; i < COUNT(count); i++) {
+        line_network(&tables, 300);
+        for (int hop = 0; hop < count[i]; hop++)
+            push(&tables.hops, hop % 255);
+        name_cases("%d hops of nobody", count[i]);
+        run_tables_everywhere();
+        push(&tables.sources, 0);
+        push(&tables.stops, count[i] & 65535);
+        name_cases("%d hops of one packet", count[i]);
+        run_tables_everywhere();
+    }
+}
+
+/* ---- Bytes ---- */
+
+/* A job that is in order, of any number of bytes. */
+static void text_of_length(size_t bytes)
+{
+    clear_text(&text);
+    add(&text, "N\t1024\n");
+    for (int link = 0; link < 4096; link++)
+        add(&text, "L\t%d\t%d\n", 1000 + link % 23, 1001 + link % 23);
+    for (int k = 0; bytes - text.bytes > 150; k++)
+        add_path(1001, 4003 - 23 * (k % 20), 20);
+    while (bytes - text.bytes > 11) /* lines of 7 bytes until 5 to 11 are left, which are one line or two */
+        add(&text, "P\t1000\n");
+    switch (bytes - text.bytes) {
+    case 5: add(&text, "P\t10\n"); break;
+    case 6: add(&text, "P\t100\n"); break;
+    case 7: add(&text, "P\t1000\n"); break;
+    case 8: add(&text, "P\t0\nP\t0\n"); break;
+    case 9: add(&text, "P\t0\nP\t10\n"); break;
+    case 10: add(&text, "P\t10\nP\t10\n"); break;
+    case 11: add(&text, "P\t10\nP\t100\n"); break;
+    }
+    if (text.bytes != bytes)
+        abort();
+}
+
+static void limit_bytes(void)
+{
+    for (size_t bytes = 65534; bytes <= 65537; bytes++)
+        for (int mistake = 0; mistake < 5; mistake++) {
+            text_of_length(bytes);
+            switch (mistake) {
+            case 1: text.byte[0] = 'X'; break;
+            case 2: text.byte[bytes - 1] = '0'; break;
+            case 3: text.byte[2] = '0'; break;
+            }
+            name_cases("text of %zu bytes, mistake %d", bytes, mistake);
+            run_text(&text, mistake == 4 ? 10 : ROOM);
+            if (mistake == 0)
+                expect(planner.answer.refusal == (bytes > 65535), "%s", label);
+        }
+    text_of_length(190000);
+    name_cases("190,000 bytes");
+    run_text(&text, ROOM);
+    run_text(&text, 0);
+
+    static const char *const again[] = { "\n", "\t", "0", "9", "P\t0\n", "N\t1\n", "\t0", "N", "\r\n", "\xFF", " " };
+    for (size_t i = 0; i < COUNT(again); i++)
+        for (int head = 0; head < 2; head++)
+            for (size_t bytes = 65535; bytes <= 65536; bytes++) {
+                clear_text(&text);
+                add(&text, "%s", head ? "N\t1\nP\t0" : "");
+                while (text.bytes < bytes)
+                    add(&text, "%s", again[i]);
+                text.bytes = bytes;
+                name_cases("%zu bytes, all alike: %zu after head %d", bytes, i, head);
+                run_text(&text, ROOM);
+            }
+}
+
+/* ---- Starts ---- */
+
+static void limit_starts(void)
+{
+    static const int edge[] = { 0, 1, 16384, 32766, 32767, 32768, 65535 };
+    line_network(&tables, 12);
+    push_path(&tables, 0, 0, 10);
+    push_path(&tables, 9, 9, 1);
+    push_path(&tables, 0, 0, 1);
+    for (size_t x = 0; x < COUNT(edge); x++)
+        for (size_t y = 0; y < COUNT(edge); y++)
+            for (size_t z = 0; z < COUNT(edge); z++) {
+                starts.count = 0;
+                push(&starts, edge[x]);
+                push(&starts, edge[y]);
+                push(&starts, edge[z]);
+                name_cases("starts %d %d %d", edge[x], edge[y], edge[z]);
+                run_check(&tables, &starts, 4);
+                run_check(&tables, &starts, 0);
+                run_lead(&tables, &starts, 0, 1, 9);
+                run_lead(&tables, &starts, 1, 0, 9);
+                run_lead(&tables, &starts, 1, 1, 9);
+                run_lead(&tables, &starts, 1, 2, 9);
+                run_lead(&tables, &starts, 0, 2, 0);
+                run_plan_text(&tables, &starts, SMALL_ROOM);
+                run_plan_text(&tables, &starts, 5);
+                name_cases("starts %d %d and one too few", edge[x], edge[y]);
+                starts.count = 2;
+                run_check(&tables, &starts, 2);
+                run_lead(&tables, &starts, 1, 1, 9);
+                run_plan_text(&tables, &starts, 5);
+            }
+    line_network(&tables, 256);
+    push_path(&tables, 0, 0, 255);
+    push_path(&tables, 254, 254, 1);
+    starts.count = 0;
+    push(&starts, 32767);
+    push(&starts, 0);
+    name_cases("the greatest and the least lead");
+    run_lead(&tables, &starts, 0, 1, 254);
+    expect(planner.answer.refusal == 0 && planner.answer.lead == 33021, "the greatest lead");
+    run_lead(&tables, &starts, 1, 0, 254);
+    expect(planner.answer.refusal == 0 && planner.answer.lead == -33021, "the least lead");
+}
+
+void limits(void)
+{
+    limit_nodes();
+    limit_links();
+    limit_packets();
+    limit_path();
+    limit_hops();
+    limit_bytes();
+    limit_starts();
+}
+
+/* ---- Rooms ---- */
+
+/* Enough, just enough, one byte less, none, and others. Six times each: so often, the list lies at every place of its field. */
+static void rooms_of(const char *name)
+{
+    text_of_job(&job, &text);
+    tables_of_job(&job, &tables);
+    zero_starts();
+    name_cases("rooms of %s", name);
+    run_plan_text(&tables, &starts, ROOM);
+    size_t bytes_written = planner.answer.value;
+    run_text(&text, ROOM);
+    size_t bytes = planner.answer.value;
+    for (int other = -2; other <= 6; other++) {
+        size_t around = (size_t)(other < 3 ? other : 20 * other);
+        for (int again = 0; again < 6; again++) {
+            name_cases("rooms of %s: %zu for %zu bytes", name, bytes + around, bytes);
+            run_text(&text, bytes + around);
+            run_plan_text(&tables, &starts, bytes_written + around);
+        }
+    }
+    for (size_t room = 0; room < bytes; room += 1 + room / 4) {
+        name_cases("rooms of %s: %zu for %zu bytes", name, room, bytes);
+        run_text(&text, room);
+        run_plan_text(&tables, &starts, room);
+    }
+    for (size_t places = 0; places <= (size_t)job.packets + 3; places++) {
+        name_cases("%zu places for the starts of %s", places, name);
+        run_starts(&tables, places);
+    }
+}
+
+/* The longest plans: 1,024 lines, with late starts and with starts of every number of digits. */
+static void long_plans(void)
+{
+    static const int digits[] = { 0, 9, 10, 99, 100, 999, 1000, 9999, 10000, 32767, 93, 94, 983, 984, 9983, 9984 };
+    line_network(&tables, 17);
+    for (int k = 0; k < 1024; k++)
+        push_path(&tables, 0, 0, 16);
+    for (int late = 0; late < 2; late++) {
+        starts.count = 0;
+        for (int k = 0; k < 1024; k++)
+            push(&starts, late ? 32767 : digits[k % 16]);
+        name_cases("1,024 lines");
+        run_plan_text(&tables, &starts, ROOM);
+        size_t bytes = planner.answer.value;
+        for (size_t room = bytes - 1; room <= bytes + 1; room++) {
+            name_cases("1,024 lines of %zu bytes, room %zu", bytes, room);
+            run_plan_text(&tables, &starts, room);
+        }
+        run_check(&tables, &starts, 4);
+    }
+}
+
+void rooms(void)
+{
+    show_job(&job, session_a);
+    rooms_of("session A");
+    show_job(&job, "N 1\n");
+    rooms_of("no packets");
+    show_job(&job, "N 1\nP 0\n");
+    rooms_of("no hops");
+    show_job(&job, "N 2\nL 0 1\nP 0 0\nP 0 0\nP 0 0\nP 0 0\nP 0 0\nP 0 0\nP 0 0\nP 0 0\nP 0 0\nP 0 0\nP 0 0\nP 0 0\n");
+    rooms_of("twelve packets on one link");
+    long_plans();
+}
+
+/* ---- Jobs as large as can be. They take long, so each is asked once and none is kept. ---- */
+
+void full_jobs(void)
+{
+    for (int last_hops = 16; last_hops <= 17; last_hops++) { /* all over links 0 to 15; one hop more needs one link more */
+        line_text(18);
+        for (int k = 0; k < 1023; k++)
+            add_path(0, 0, 16);
+        add_path(0, 0, last_hops);
+        name_cases("1,024 packets, %d hops in all", 1023 * 16 + last_hops);
+        run_text(&text, ROOM);
+        expect(planner.answer.refusal == (last_hops == 16 ? 0 : 3), "%s", label);
+    }
+    for (int packets = 1024; packets <= 1025; packets++) {
+        line_text(2);
+        for (int k = 0; k < packets; k++)
+            add_path(0, 0, 1);
+        name_cases("%d packets on one link", packets);
+        run_text(&text, ROOM);
+        expect(planner.answer.refusal == (packets == 1024 ? 0 : 3), "%s", label);
+    }
+    line_network(&tables, 256);
+    for (int k = 0; k < 64; k++)
+        push_path(&tables, 0, 0, 255);
+    push_path(&tables, 191, 191, 64);
+    name_cases("16,384 hops over 255 links");
+    run_starts(&tables, 65);
+    expect(planner.answer.refusal == 0, "%s", label);
+}

@@ -1,0 +1,41 @@
+/* sections.h: the parts of the comparison, each in the file of its name. */
+#ifndef SECTIONS_H
+#define SECTIONS_H
+
+#include "../include/zhevgulor.h"
+
+/* Rooms for plans: of any job, of some 75 packets, of a handful. */
+enum { ROOM = ZHEVGULOR_PLAN_BYTES, MIDDLE_ROOM = 1500, SMALL_ROOM = 300 };
+
+void sessions(void);
+
+/* small.c: all there is of something small. */
+void wrong_forms(void);
+void short_lines(void);
+void single_bytes(void);
+void small_jobs(void);
+void small_starts(void);
+void wrong_pairs(void);
+
+/* limits.c: up to every limit and over it. */
+void limits(void);
+void rooms(void);
+void full_jobs(void);
+
+/* random.c: from seeds. */
+extern long gaps; /* starts in a gap */
+void random_jobs(void);
+void large_random_jobs(void);
+void damaged_texts(void);
+void damaged_lists(void);
+void print_seeds(void);
+
+/* promises.c: what zhevgulor.h says beside the answers. */
+void threads(void);
+void stack(void);
+
+/* teeth.c: what the comparison is worth. */
+void teeth(void);
+void counts(void);
+
+#endif

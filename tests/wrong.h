@@ -1,0 +1,105 @@
+/* wrong.h: wrong rules that simple.c can be made to follow, one at a time.
+ *
+ * A comparison that never fails shows nothing until it is seen to fail. So each mistake below, switched on in simple.c alone, has
+ * to be noticed in every function that is named with it. */
+#ifndef WRONG_H
+#define WRONG_H
+
+enum function { PLAN, TABLES, STARTS, CHECK, LEAD, PLAN_TEXT, FUNCTIONS };
+
+enum {
+    BY_PLAN = 1 << PLAN,
+    BY_STARTS = 1 << STARTS,
+    BY_CHECK = 1 << CHECK,
+    BY_LEAD = 1 << LEAD,
+    BY_PLAN_TEXT = 1 << PLAN_TEXT,
+    BY_PLANNERS = BY_PLAN | BY_STARTS,
+    BY_WRITERS = BY_PLAN | BY_PLAN_TEXT,
+    BY_LENT = BY_PLANNERS | BY_CHECK | BY_PLAN_TEXT,            /* those with a list lent for the answer */
+    BY_GIVEN = BY_CHECK | BY_LEAD | BY_PLAN_TEXT,               /* those that take starts */
+    BY_LISTS = 1 << TABLES | BY_STARTS | BY_GIVEN,              /* those that take a job as lists */
+    BY_ALL = BY_PLAN | BY_LISTS
+};
+
+#define OFF_BY_ONE(X, name, functions, words) \
+    X(name##_MORE, functions, words ": one more passes") \
+    X(name##_LESS, functions, words ": the last that is allowed is refused")
+
+#define WRONG_RULES(X) \
+    /* errors that look reasonable */ \
+    X(STARTS_COMPARED, BY_PLANNERS | BY_CHECK | BY_LEAD, "starts are compared, not the steps in which a link is entered") \
+    X(FIRST_SHARED_LINK, BY_PLANNERS | BY_CHECK, "two packets are kept apart at their first shared link only") \
+    X(AFTER_LAST_USE, BY_PLANNERS, "a packet starts after the last use of its links, not in the first gap") \
+    X(LAST_END, BY_WRITERS, "the routing time is the last packet's end") \
+    X(GREATEST_START, BY_WRITERS, "the routing time is the greatest start") \
+    X(DIRECTIONS_BLOCK, BY_PLANNERS | BY_CHECK, "the two directions of a wire block each other") \
+    X(PARALLELS_BLOCK, BY_PLANNERS | BY_CHECK, "parallel links block each other") \
+    /* refusals in another order: text */ \
+    X(TEXT_2_BEFORE_1, BY_PLAN, "text: the lines come before the length") \
+    X(TEXT_3_BEFORE_2, BY_PLAN, "text: 3 before 2 on a line") \
+    X(TEXT_4_BEFORE_3, BY_PLAN, "text: 4 before 3 on a line") \
+    X(TEXT_5_BEFORE_4, BY_PLAN, "text: 5 before 4 on a line") \
+    X(TEXT_HOPS_BEFORE_4, BY_PLAN, "text: the hops before 4 on a line") \
+    X(TEXT_FORM_FIRST, BY_PLAN, "text: bad form further down before any other refusal further up") \
+    /* ... paths */ \
+    X(PATH_7_BEFORE_6, BY_ALL, "path: 7 before 6 at a hop") \
+    X(PATH_8_BEFORE_7, BY_ALL, "path: 8 before 7 at a hop") \
+    X(PATH_RULE_BY_RULE, BY_ALL, "path: 6 of all hops, then 7 of all, then 8 of all") \
+    /* ... lists */ \
+    X(LISTS_3_BEFORE_9, BY_LISTS, "lists: 3 before 9") \
+    X(LISTS_LINKS_BEFORE_3, BY_LISTS, "lists: the links before the sizes") \
+    X(LISTS_PACKETS_BEFORE_LINKS, BY_LISTS, "lists: the packets before the links") \
+    X(LISTS_5_BEFORE_4, BY_LISTS, "lists: 5 before 4 of a link") \
+    X(LISTS_LINKS_RULE_BY_RULE, BY_LISTS, "lists: 4 of all links before 5 of any") \
+    X(LISTS_4_BEFORE_3, BY_LISTS, "lists: 4 before 3 of a packet") \
+    X(LISTS_HOPS_BEFORE_4, BY_LISTS, "lists: the hops before 4 of a packet") \
+    X(LISTS_PACKETS_RULE_BY_RULE, BY_LISTS, "lists: 3 and 4 of all packets before the hops of any") \
+    /* ... after them */ \
+    X(ROOM_FIRST, BY_LENT, "10 before every other refusal") \
+    X(ROOM_BEFORE_12, BY_CHECK | BY_PLAN_TEXT, "10 before 12") \
+    X(STARTS_11_BEFORE_LISTS, BY_GIVEN, "11 before the lists are looked at") \
+    X(STARTS_12_BEFORE_11, BY_GIVEN, "12 before 11") \
+    X(LEAD_13_BEFORE_12, BY_LEAD, "13 before 12") \
+    X(LEAD_13_BEFORE_LISTS, BY_LEAD, "13 for a packet with itself before the lists are looked at") \
+    /* limits */ \
+    OFF_BY_ONE(X, BYTES, BY_PLAN, "bytes of a text") \
+    OFF_BY_ONE(X, NODES, BY_ALL, "nodes") \
+    OFF_BY_ONE(X, LINKS, BY_ALL, "links") \
+    OFF_BY_ONE(X, PACKETS, BY_ALL, "packets") \
+    OFF_BY_ONE(X, PATH_HOPS, BY_ALL, "hops of a path") \
+    OFF_BY_ONE(X, HOPS, BY_ALL, "hops in all") \
+    OFF_BY_ONE(X, START, BY_GIVEN, "a start") \
+    OFF_BY_ONE(X, NUMBER, BY_PLAN, "a number in a text") \
+    OFF_BY_ONE(X, NODE_NUMBER, BY_ALL, "a node's number") \
+    OFF_BY_ONE(X, LINK_NUMBER, BY_ALL, "a link's number") \
+    X(NO_NODES, BY_ALL, "nodes: none at all passes") \
+    /* bad forms that are taken */ \
+    X(CARRIAGE_RETURN, BY_PLAN, "form: a carriage return before the line feed passes") \
+    X(LEADING_ZERO, BY_PLAN, "form: leading zeros pass") \
+    X(LINK_BELOW_PACKET, BY_PLAN, "form: an L line below a P line passes") \
+    X(NO_LAST_LINE_FEED, BY_PLAN, "form: the last line feed may be missing") \
+    X(EMPTY_LINE, BY_PLAN, "form: empty lines are skipped") \
+    X(EXTRA_FIELD, BY_PLAN, "form: one number too many on an N or L line passes") \
+    X(SPACE_FOR_TAB, BY_PLAN, "form: a space parts fields as a tab does") \
+    /* places and answers */ \
+    X(LINES_FROM_0, BY_PLAN, "lines are counted from 0") \
+    X(LATE_AT_HIGHEST, BY_GIVEN, "12 at the highest packet, not at the lowest") \
+    X(C_AND_D_SWAPPED, BY_WRITERS, "C and D are swapped") \
+    X(CLASH_HIGHEST_PACKET, BY_CHECK, "the highest clashing packet is shown") \
+    X(CLASH_LAST_HOP, BY_CHECK, "the last clashing hop is shown") \
+    X(CLASH_PAIR_TURNED, BY_CHECK, "the earlier packet of a clash is shown first") \
+    X(CLASH_HOP_FOR_LINK, BY_CHECK, "the hop of a clash is shown for its link") \
+    X(CLASH_START_FOR_STEP, BY_CHECK, "the start is shown for the step of a clash") \
+    X(LEAD_TURNED, BY_LEAD, "the lead has the other sign") \
+    /* lent lists */ \
+    X(EXACT_ROOM_REFUSED, BY_LENT, "10 although the room is just enough") \
+    X(REFUSAL_WRITES, BY_LENT, "10, but as much as fits is written") \
+    X(WRITES_PAST, BY_LENT, "one place after the answer is changed too")
+
+#define WRONG_NAME(name, functions, words) name,
+enum wrong { NOTHING_WRONG, WRONG_RULES(WRONG_NAME) WRONG_COUNT };
+#undef WRONG_NAME
+
+extern enum wrong wrong; /* the one that is switched on */
+
+#endif
