@@ -1,4 +1,4 @@
-/* zhevgulor.h: the planner of start steps, for programs written in C.
+/* zhevgulor.h: the planner of start steps, for programs written in C. The archive, libzhevgulor.a, is for x86-64.
  *
  * Links cannot hold a packet back and every packet's path is given, so all there is to plan is the step in which each packet sets
  * out. Packets stand in a list; each gets the earliest step in which it meets nobody above it in the list on any link.
@@ -42,8 +42,12 @@
  *
  * LENT LISTS. A list is a pointer and the number of its elements. The list that an answer is written to is lent by the caller. A
  * refusal leaves it as it was. Otherwise the answer is put in its first elements and the rest stays as it was: a plan has no
- * closing zero byte. All other lists are only read. A list may always be longer than needed; ZHEVGULOR_PLAN_BYTES bytes,
- * ZHEVGULOR_PACKETS starts and ZHEVGULOR_CLASH numbers are enough for every answer.
+ * closing zero byte. A lent list may be longer than needed; ZHEVGULOR_PLAN_BYTES bytes, ZHEVGULOR_PACKETS starts and
+ * ZHEVGULOR_CLASH numbers are enough for every answer. All other lists are only read, and each has exactly the job's elements: of
+ * the starts that zhevgulor_starts wrote, as many are handed on as there are packets.
+ *
+ * NUMBERS. Nodes, links, packets and starts are 16 bits wide. C cuts a wider number that is handed over to 16 bits before the
+ * function sees it, and gcc says so with -Wconversion.
  *
  * POINTERS. Beside the number 0 a pointer may be null, and is not followed in any case. Every other pointer must be aligned for its
  * type and lead to as many elements as are said. The lent list must not overlap a list that is read. Lists that are read may
@@ -67,7 +71,7 @@
 extern "C" {
 #endif
 
-/* The most of each thing that a job may have. A job has at least one node; of all else it may have none. */
+/* The most of each thing that a job may have. It has at least one node; of links, packets and hops it may have none. */
 #define ZHEVGULOR_TEXT_BYTES   65535 /* bytes of its text */
 #define ZHEVGULOR_NODES        1024
 #define ZHEVGULOR_LINKS        4096  /* each one-way */
@@ -128,7 +132,7 @@ zhevgulor_answer zhevgulor_starts(ZHEVGULOR_LISTS, uint16_t *starts, size_t star
 /* Do given starts keep all packets apart? On success `value` is
  *   0 if no two packets enter one link in one step: then nothing is written;
  *   ZHEVGULOR_CLASH if two do: then clash[0] is the first packet in the list that meets one above it, clash[1] the packet that it
- *     meets, clash[2] the link, the first on the path of clash[0] where it meets anybody, and clash[3] the step.
+ *     meets, clash[2] the link, the first on the path of clash[0] where it meets one above it, and clash[3] the step.
  * With no clash there is nothing to write, so that a list of any length will do. */
 zhevgulor_answer zhevgulor_check(ZHEVGULOR_LISTS, const uint16_t *starts, size_t starts_count,
                                  uint32_t *clash, size_t clash_count);

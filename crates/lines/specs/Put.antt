@@ -11,5 +11,5 @@ pub record Put (before : List ℕ) (at : ℕ) (text after : List ℕ) (next : �
   pub past : next ≡ at + length text
 
 -- no line of so many 32-bit numbers is longer: letter and line feed, and of each number a tab and ten digits
-abbrev pub lineMost : ℕ → ℕ
-lineMost numbers = 2 + 11 * numbers
+abbrev pub longestLine : ℕ → ℕ
+longestLine numbers = 2 + 11 * numbers

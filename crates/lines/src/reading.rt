@@ -162,7 +162,7 @@ pub fn count_numbers(line: &[u8], at: usize) -> Counted
     ensures { λ r. ⌜ countedTold r ≡ howMany (numbersOf (fieldsFrom (now (line .entry)) at)) ⌝ }
 {
     let mut place = at;
-    let mut count = 0;
+    let mut count: usize = 0;
     loop {
         let field = next_field(line, place);
         match field {

@@ -3,7 +3,7 @@
 ghost use mathlib.Core.List.{[], _∷_};
 ghost use Prim.Native.Nat.{_+_, _^_, _≤_, _<_};
 ghost use Rattle.rules.specs.Bytes.{tab, decimal, lineText};
-ghost use Rattle.lines.specs.Put.{Put, lineMost};
+ghost use Rattle.lines.specs.Put.{Put, longestLine};
 
 // Writes a byte, and gives the place after it.
 fn byte(room: &mut [u8], at: usize, b: u8) -> usize
@@ -43,7 +43,7 @@ fn field(room: &mut [u8], at: usize, n: u32) -> usize
 // Writes a line of a letter and two numbers.
 pub fn line_of_two(room: &mut [u8], at: u32, letter: u8, a: u32, b: u32) -> usize
     ensures { λ r. ⌜ Put (now (room .entry)) at (lineText letter (a ∷ b ∷ [])) (now (room .exit)) r ⌝ }
-    ensures near { λ r. ⌜ r ≤ at + lineMost 2 ⌝ }
+    ensures near { λ r. ⌜ r ≤ at + longestLine 2 ⌝ }
 {
     let first = byte(room, at as usize, letter);
     let second = field(room, first, a);
@@ -54,7 +54,7 @@ pub fn line_of_two(room: &mut [u8], at: u32, letter: u8, a: u32, b: u32) -> usiz
 // Writes a line of a letter and three numbers.
 pub fn line_of_three(room: &mut [u8], at: u32, letter: u8, a: u32, b: u32, c: u32) -> usize
     ensures { λ r. ⌜ Put (now (room .entry)) at (lineText letter (a ∷ b ∷ c ∷ [])) (now (room .exit)) r ⌝ }
-    ensures near { λ r. ⌜ r ≤ at + lineMost 3 ⌝ }
+    ensures near { λ r. ⌜ r ≤ at + longestLine 3 ⌝ }
 {
     let first = byte(room, at as usize, letter);
     let second = field(room, first, a);

@@ -1,9 +1,9 @@
 -- What the planner writes obeys demands 2 and 3: the theorems of the rules, of the places it wrote.
-use mathlib.Core.Path.{_≡_, refl, sym}
+use mathlib.Core.Path.{_≡_, refl, sym, ap, _∙_}
 use mathlib.Core.List.{List}
-use Prim.Native.Nat.{ℕ}
+use Prim.Native.Nat.{ℕ, _≤_}
 use lib.ListN.{length, take}
-use lib.Seq.{take-append-seam}
+use lib.Seq.{take-append-seam, take-take}
 use Rattle.rules.specs.Network.{Job, paths}
 use Rattle.rules.specs.Outcome.{Outcome, is, refused, fine, onward}
 use Rattle.rules.specs.Greedy.{greedy}
@@ -13,7 +13,7 @@ use Rattle.rules.specs.Answers.{lentAfter, planned}
 use Rattle.theorems.specs.Demands.{Bounded}
 use Rattle.theorems.proofs.Verdicts.{refused-not-is}
 use Rattle.theorems.proofs.Rows.{planned-iff}
-use Rattle.theorems.proofs.Starts.{length-greedy, greedy-starts}
+use Rattle.theorems.proofs.Starts.{length-greedy, greedy-starts, greedy-front}
 use Rattle.theorems.proofs.Demands.{tables-bounded}
 use Rattle.job.specs.declared.Verdict.the-variants.{Fine}
 use Rattle.planner.specs.Told.{PlannedAs}
@@ -38,3 +38,11 @@ module _ (j : Job) (room : ℕ) (lent after : List ℕ) (p : PlannedAs (planned 
   -- and these obey the bounds
   pub plan-bounded : Bounded j
   plan-bounded = tables-bounded j (planned-greedy .0)
+
+-- what is listed later moves nothing: two plans of jobs whose first n paths are alike have their first n starts alike
+pub plan-front : (j k : Job) (room other : ℕ) {lent after lent′ after′ : List ℕ} → PlannedAs (planned j room) Fine lent after → PlannedAs (planned k other) Fine lent′ after′
+    → (n : ℕ) → n ≤ length (paths j) → n ≤ length (paths k) → take n (paths j) ≡ take n (paths k) → take n after ≡ take n after′
+plan-front j k room other p q n l m e = front j room p l ∙ greedy-front j k n e ∙ sym (front k other q m)
+  where
+    front : (i : Job) (places : ℕ) {lent after : List ℕ} → PlannedAs (planned i places) Fine lent after → n ≤ length (paths i) → take n after ≡ take n (greedy i)
+    front i places {lent} {after} w h = sym (take-take n (length (paths i)) after h) ∙ ap (take n) (plan-writes-greedy i places lent after w)

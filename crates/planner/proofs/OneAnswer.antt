@@ -5,7 +5,7 @@ use mathlib.Core.Option.{Option}
 use Prim.Native.Nat.{ℕ}
 use lib.IntN.{ℤ}
 use Rattle.rules.specs.Outcome.{Outcome, is, refused}
-use Rattle.rules.specs.Check.{Clash as Shown}
+use Rattle.rules.specs.Check.{Clash as RuledClash}
 use Rattle.job.specs.declared.Verdict.{Verdict}
 use Rattle.job.proofs.OneAnswer.{numbered, numbered-refusal, verdict-injective}
 use Rattle.planner.specs.declared.Checked.{Checked}
@@ -18,7 +18,7 @@ pub planned-once : {answer : Outcome (List ℕ)} {v w : Verdict} {lent after oth
 planned-once p q = (verdict-injective _ _ (p .verdict ∙ sym (q .verdict)), p .list ∙ sym (q .list))
 
 -- the check's answer as it is told
-abbrev shown : Outcome (Option Shown) → Checked
+abbrev shown : Outcome (Option RuledClash) → Checked
 shown (is found) = clearOr found
 shown (refused number place) = ClashRefused (numbered number place)
 

@@ -5,7 +5,7 @@ use mathlib.Core.Option.{Option, none, some}
 use Prim.Native.Nat.{ℕ, _<_}
 use lib.IntN.{ℤ}
 use Rattle.rules.specs.Outcome.{Outcome, is, fine, onward}
-use Rattle.rules.specs.Check.{Clash as Shown}
+use Rattle.rules.specs.Check.{Clash as RuledClash}
 use Rattle.rules.specs.Answers.{lentAfter}
 use Rattle.job.specs.declared.Verdict.{Verdict}
 use Rattle.job.specs.Told.{refusalOf, verdictOf}
@@ -20,13 +20,13 @@ abbrev pub enteredOf : Entered → Option ℕ
 enteredOf (At step) = some (step .0)
 enteredOf Nowhere = none
 
-abbrev pub checkedOf : Checked → Outcome (Option Shown)
+abbrev pub checkedOf : Checked → Outcome (Option RuledClash)
 checkedOf Clear = is none
 checkedOf (Clash later earlier link step) = is (some (record { later = later; earlier = earlier; resource = link; step = step .0 }))
 checkedOf (ClashRefused refusal) = refusalOf refusal
 
 -- clear, or the clash
-abbrev pub clearOr : Option Shown → Checked
+abbrev pub clearOr : Option RuledClash → Checked
 clearOr none = Clear
 clearOr (some x) = Clash (x .later) (x .earlier) (x .resource) (record { 0 = x .step })
 

@@ -1,6 +1,6 @@
--- A text is refused by 1 to 8 only, and the place is 0 or one of its lines: the other numbers are about lists, rooms, starts and
--- leads. So all that `plan` prints fits the room that always suffices.
-use mathlib.Core.Path.{_≡_, refl, sym}
+-- A text is refused by 1 to 8 only, and the place is at most the number of its pieces between line feeds: the other numbers are
+-- about lists, rooms, starts and leads. So all that `plan` prints fits the room that always suffices.
+use mathlib.Core.Path.{_≡_, refl, sym, ap}
 use mathlib.Core.Bool.{Bool, true, false, not, _&&_}
 use mathlib.Core.List.{List, [], _∷_, _++_}
 use mathlib.Core.Option.{Option, none, some}
@@ -19,20 +19,21 @@ use Rattle.rules.specs.JobText.{Line, nodes, link, packet, bad, lineOf, withLin
 use Rattle.rules.specs.Answers.{answer, printed, plans}
 use Rattle.theorems.proofs.Verdicts.{refused-not-is}
 use Rattle.theorems.proofs.Numbers.{decimal-length-le}
+use Rattle.theorems.proofs.TextPieces.{split-first}
 use Rattle.theorems.proofs.Started.{answer-length}
 
--- what is refused has a number up to 8 and a place up to `last`
+-- what is refused has a number from 1 to 8 and a place up to `last`
 pub record OfText {A : Type 0} (last : ℕ) (o : Outcome A) : Type 0 where
-  pub number : {n p : ℕ} → o ≡ refused n p → n ≤ 8
+  pub number : {n p : ℕ} → o ≡ refused n p → (1 ≤ n) × (n ≤ 8)
   pub place : {n p : ℕ} → o ≡ refused n p → p ≤ last
 
 value : {A : Type 0} {last : ℕ} {a : A} → OfText last (is a)
 value = record { number = λ e. absurd (refused-not-is (sym e)); place = λ e. absurd (refused-not-is (sym e)) }
 
-refusal : {A : Type 0} {last n p : ℕ} → n ≤ 8 → p ≤ last → OfText {A = A} last (refused n p)
+refusal : {A : Type 0} {last n p : ℕ} → (1 ≤ n) × (n ≤ 8) → p ≤ last → OfText {A = A} last (refused n p)
 refusal {A} {last} {n} {p} l m =
     record {
-      number = λ {n = k} e. let s : n ≡ k = cc in omega (arith, l, s);
+      number = λ {n = k} e. let s : n ≡ k = cc in (omega (arith, l .0, s), omega (arith, l .1, s));
       place = λ {p = q} e. let s : p ≡ q = cc in omega (arith, m, s);
     }
 
@@ -47,7 +48,7 @@ onwards {o = refused n p} h k = refusal (h .number refl) (h .place refl)
 -- ---- one line
 
 module _ {last place : ℕ} (near : place ≤ last) where
-  test : (t : Bool) (n : ℕ) → n ≤ 8 → OfText last (must t n place)
+  test : (t : Bool) (n : ℕ) → (1 ≤ n) × (n ≤ 8) → OfText last (must t n place)
   test true n l = value
   test false n l = refusal l near
 
@@ -110,17 +111,18 @@ split-length-le c (b ∷ bs) = go (eqb b c) (split c bs) (split-length-le c bs)
     go false [] l = omega arith
     go false (p ∷ ps) l = omega (arith, l)
 
-reading-of-text : (text : List ℕ) → OfText (suc textMost) (reading text)
-unfolding reading
-reading-of-text text = go (leb (length text) textMost) refl
-  where
-    go : (t : Bool) → leb (length text) textMost ≡ t → OfText (suc textMost) (must t 1 0 then allLines (split lineFeed text))
-    go true e = all-of-text (split lineFeed text) (omega arith) (omega (arith, split-length-le lineFeed text, leb-true (length text) textMost e))
-    go false e = refusal (omega arith) (omega arith)
+module _ (text : List ℕ) {last : ℕ} (least : 1 ≤ last) (near : length text ≤ textMost → length (split lineFeed text) ≤ last) where
+  answer-up-to : OfText last (answer text)
+  unfolding answer reading
+  answer-up-to = onwards (go (leb (length text) textMost) refl) (λ j. value)
+    where
+      go : (t : Bool) → leb (length text) textMost ≡ t → OfText last (must t 1 0 then allLines (split lineFeed text))
+      go true e = all-of-text (split lineFeed text) least (near (leb-true (length text) textMost e))
+      go false e = refusal (omega arith, omega arith) (omega arith)
 
-pub answer-of-text : (text : List ℕ) → OfText (suc textMost) (answer text)
-unfolding answer
-answer-of-text text = onwards (reading-of-text text) (λ j. value)
+-- by 1 to 8, at 0 or at a line of the text; what follows the last line feed counts as a line, so that an empty text has one
+pub answer-of-text : (text : List ℕ) → OfText (length (split lineFeed text)) (answer text)
+answer-of-text text = let (p, ps, e) = split-first lineFeed text in answer-up-to text (omega (arith, ap length e)) (λ short. omega arith)
 
 -- ---- what is printed
 
@@ -128,10 +130,10 @@ printed-length : (o : Outcome (List ℕ)) → ((plan : List ℕ) → o ≡ is pl
 unfolding printed lineText fieldsText
 printed-length (is plan) h k = h plan refl
 printed-length (refused n p) h k =
-    let digits = decimal-length-le 0 n (omega (arith, k .number refl)) in
+    let digits = decimal-length-le 0 n (omega (arith, k .number refl .1)) in
     let line = decimal-length-le 4 p (omega (arith, k .place refl)) in
     simp length-append (omega (arith, digits, line))
 
 pub plans-length : (text : List ℕ) → length (plans text) ≤ planMost
 unfolding plans
-plans-length text = printed-length (answer text) (answer-length text) (answer-of-text text)
+plans-length text = printed-length (answer text) (answer-length text) (answer-up-to text (omega arith) (λ short. omega (arith, short, split-length-le lineFeed text)))

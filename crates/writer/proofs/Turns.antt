@@ -12,7 +12,7 @@ use Rattle.rules.specs.Counts.{endOf, routingTime}
 use Rattle.rules.specs.Bytes.{letterS, lineText}
 use Rattle.rules.specs.PlanText.{packetLines}
 use Rattle.job.proofs.Laws.{from-place}
-use Rattle.lines.specs.Put.{Put, lineMost}
+use Rattle.lines.specs.Put.{Put, longestLine}
 use Rattle.lines.proofs.Putting.{put-rest}
 use Rattle.writer.specs.Listed.{hopCount, StopsOf}
 
@@ -67,7 +67,7 @@ module _ {stops starts : List ℕ} {time k : ℕ} (w : Latest stops starts time 
 
 pub record LinesLeft (before stops starts room : List ℕ) (at k : ℕ) : Type 0 where
   pub near : k ≤ length stops
-  pub low : at ≤ lineMost 3 * k
+  pub low : at ≤ longestLine 3 * k
   pub same : length room ≡ length before
   pub left : (paths : List (List ℕ)) → StopsOf paths stops
       → Put room at (packetLines k (drop k starts) (drop k paths)) (sets before 0 (packetLines 0 starts paths)) (length (packetLines 0 starts paths))
@@ -78,7 +78,7 @@ lines-start before stops starts =
 
 module _ {before stops starts room : List ℕ} {at k : ℕ} (w : LinesLeft before stops starts room at k) (same : length starts ≡ length stops) where
   pub lines-turn : {after : List ℕ} {end next : ℕ} → k < length stops → end ≡ getD starts k 0 + hopCount stops k
-      → Put room at (lineText letterS (k ∷ getD starts k 0 ∷ end ∷ [])) after next → next ≤ at + lineMost 3 → length after ≡ length room → LinesLeft before stops starts after next (k + 1)
+      → Put room at (lineText letterS (k ∷ getD starts k 0 ∷ end ∷ [])) after next → next ≤ at + longestLine 3 → length after ≡ length room → LinesLeft before stops starts after next (k + 1)
   unfolding packetLines endOf
   lines-turn h e p n l = record {
     near = omega arith;

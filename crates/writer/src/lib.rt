@@ -11,7 +11,7 @@ ghost use Rattle.rules.specs.Counts.{routingTime};
 ghost use Rattle.rules.specs.PlanText.{packetLines, planText};
 ghost use Rattle.rules.specs.Answers.{written};
 ghost use Rattle.job.specs.Lists.{jobOf};
-ghost use Rattle.lines.specs.Put.{Put, lineMost};
+ghost use Rattle.lines.specs.Put.{Put, longestLine};
 ghost use Rattle.writer.specs.Listed.{Rising, hopCount, StopsOf, Linked, mostOften, Listed, ListsOf};
 ghost use Rattle.writer.specs.Told.{WrittenAs};
 use job::Hop;
@@ -115,7 +115,7 @@ fn congestion(links: usize, hops: &[u16]) -> u32
 fn packet_lines(room: &mut [u8], stops: &[u16], starts: &[u16]) -> usize
     requires { ⌜ Rising (now stops) × (length (now starts) ≡ length (now stops)) × (length (now stops) ≤ packetsMost) ⌝ }
     ensures { λ r. ⌜ ((paths : List (List ℕ)) → StopsOf paths (now (stops .entry)) → Put (now (room .entry)) 0 (packetLines 0 (now (starts .entry)) paths) (now (room .exit)) r) ⌝ }
-    ensures near { λ r. ⌜ r ≤ lineMost 3 * packetsMost ⌝ }
+    ensures near { λ r. ⌜ r ≤ longestLine 3 * packetsMost ⌝ }
 {
     let mut at = 0;
     let mut k = 0;
@@ -131,7 +131,7 @@ fn packet_lines(room: &mut [u8], stops: &[u16], starts: &[u16]) -> usize
 fn text(room: &mut [u8], links: usize, stops: &[u16], hops: &[u16], starts: &[u16]) -> usize
     requires { ⌜ Listed links (now stops) (now hops) (now starts) ⌝ }
     ensures { λ r. ⌜ ((j : RuledJob) → ListsOf j links (now (stops .entry)) (now (hops .entry)) → Put (now (room .entry)) 0 (planText j (now (starts .entry))) (now (room .exit)) r) ⌝ }
-    ensures near { λ r. ⌜ r ≤ lineMost 3 * packetsMost + lineMost 3 ⌝ }
+    ensures near { λ r. ⌜ r ≤ longestLine 3 * packetsMost + longestLine 3 ⌝ }
 {
     let at = packet_lines(room, stops, starts);
     let time = routing_time(stops, starts);

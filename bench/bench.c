@@ -1,0 +1,315 @@
+/* bench.c: the planner's C function from text to text against fast.c, on the same jobs, in one run.
+ *
+ * Each job is planned by both in turn, several times; the median time of each is taken, and their ratio is what is shown. Neither
+ * side's buffers are cleared between two plans: fast.c overwrites its own as it reads, the planner clears its own in every call.
+ * The planner's time is told by parts:
+ *     read     zhevgulor_plan of the job with a last line of bad form, which is refused when everything above it was read
+ *     tables   zhevgulor_tables, twice: zhevgulor_plan looks at the tables before it plans and before it writes
+ *     search   zhevgulor_starts without its tables
+ *     write    zhevgulor_plan_text without its tables */
+#define _POSIX_C_SOURCE 200809L
+#include "fast.h"
+
+#include <stdarg.h>
+#include <stdio.h>
+#include <stdlib.h>
+#include <string.h>
+#include <time.h>
+
+/* ---- Jobs ---- */
+
+static uint8_t text[ZHEVGULOR_TEXT_BYTES + 1];
+static size_t bytes;
+
+static void add(const char *format, ...)
+{
+    va_list words;
+    va_start(words, format);
+    bytes += (size_t)vsnprintf((char *)text + bytes, sizeof text - bytes, format, words);
+    va_end(words);
+    if (bytes + 2 > ZHEVGULOR_TEXT_BYTES) { /* two bytes are left for a last line of bad form */
+        fprintf(stderr, "bench: a job is too long\n");
+        exit(2);
+    }
+}
+
+static uint64_t state; /* set anew for each job, so that the smaller jobs are fronts of the larger */
+
+static unsigned random_below(unsigned most)
+{
+    state = state * 6364136223846793005u + 1442695040888963407u;
+    return (unsigned)(state >> 33) % most;
+}
+
+/* Nodes in a row, link i from node i to the next. */
+static void row(int nodes)
+{
+    add("N\t%d\n", nodes);
+    for (int i = 0; i + 1 < nodes; i++)
+        add("L\t%d\t%d\n", i, i + 1);
+}
+
+static void along_row(int packets, int hops)
+{
+    for (int k = 0; k < packets; k++) {
+        add("P\t0");
+        for (int hop = 0; hop < hops; hop++)
+            add("\t%d", hop);
+        add("\n");
+    }
+}
+
+/* A mesh of 12 by 12 nodes with two-way wires. Packets go ten hops: first along their row, then along their column. */
+enum { SIDE = 12 };
+static int mesh_link[SIDE * SIDE][SIDE * SIDE];
+
+static void mesh_wire(int a, int b, int *links)
+{
+    add("L\t%d\t%d\nL\t%d\t%d\n", a, b, b, a);
+    mesh_link[a][b] = (*links)++;
+    mesh_link[b][a] = (*links)++;
+}
+
+static void mesh(int packets)
+{
+    int links = 0;
+    add("N\t%d\n", SIDE * SIDE);
+    for (int node = 0; node < SIDE * SIDE; node++) {
+        if (node % SIDE + 1 < SIDE)
+            mesh_wire(node, node + 1, &links);
+        if (node + SIDE < SIDE * SIDE)
+            mesh_wire(node, node + SIDE, &links);
+    }
+    for (int k = 0; k < packets;) {
+        int a = (int)random_below(SIDE * SIDE), b = (int)random_below(SIDE * SIDE);
+        int across = b % SIDE - a % SIDE, down = b / SIDE - a / SIDE;
+        if (abs(across) + abs(down) != 10)
+            continue;
+        add("P\t%d", a);
+        for (; across != 0; across -= across > 0 ? 1 : -1) {
+            int next = a + (across > 0 ? 1 : -1);
+            add("\t%d", mesh_link[a][next]);
+            a = next;
+        }
+        for (; down != 0; down -= down > 0 ? 1 : -1) {
+            int next = a + (down > 0 ? SIDE : -SIDE);
+            add("\t%d", mesh_link[a][next]);
+            a = next;
+        }
+        add("\n");
+        k++;
+    }
+}
+
+/* A cube of eight dimensions; link 8 * node + i flips bit i. Each packet goes from its node to its image under a permutation of one
+ * cycle, which has no fixed point, and flips the bits from the lowest up. */
+static void cube(void)
+{
+    int image[256];
+    for (int node = 0; node < 256; node++)
+        image[node] = node;
+    for (int last = 255; last > 0; last--) {
+        int other = (int)random_below((unsigned)last), kept = image[last];
+        image[last] = image[other];
+        image[other] = kept;
+    }
+    add("N\t256\n");
+    for (int node = 0; node < 256; node++)
+        for (int bit = 0; bit < 8; bit++)
+            add("L\t%d\t%d\n", node, node ^ 1 << bit);
+    for (int source = 0; source < 256; source++) {
+        add("P\t%d", source);
+        for (int bit = 0, node = source; bit < 8; bit++)
+            if ((node ^ image[source]) >> bit & 1) {
+                add("\t%d", 8 * node + bit);
+                node ^= 1 << bit;
+            }
+        add("\n");
+    }
+}
+
+static void links_only(void)
+{
+    add("N\t1024\n");
+    for (int i = 0; i < ZHEVGULOR_LINKS; i++)
+        add("L\t%d\t%d\n", i % 1024, (i + 1 + i / 1024) % 1024);
+}
+
+static void make(const char *name, int packets)
+{
+    bytes = 0;
+    state = 20240501;
+    if (strcmp(name, "mesh") == 0)
+        mesh(packets);
+    else if (strcmp(name, "one link") == 0)
+        row(2), along_row(packets, 1);
+    else if (strcmp(name, "one path") == 0)
+        row(17), along_row(packets, 16);
+    else if (strcmp(name, "long paths") == 0)
+        row(256), along_row(packets, 255);
+    else if (strcmp(name, "cube") == 0)
+        cube();
+    else
+        links_only();
+}
+
+/* The job as lists, for the functions that take it so. */
+static uint16_t nodes, origins[ZHEVGULOR_LINKS], ends[ZHEVGULOR_LINKS], sources[ZHEVGULOR_PACKETS], stops[ZHEVGULOR_PACKETS],
+    hops[ZHEVGULOR_HOPS], starts[ZHEVGULOR_PACKETS];
+static size_t link_count, packet_count, hop_count;
+
+static void make_lists(void)
+{
+    char *at = (char *)text;
+    link_count = packet_count = hop_count = 0;
+    nodes = (uint16_t)strtol(at + 2, &at, 10);
+    while (*++at) {
+        if (*at == 'L') {
+            origins[link_count] = (uint16_t)strtol(at + 2, &at, 10);
+            ends[link_count++] = (uint16_t)strtol(at + 1, &at, 10);
+        } else {
+            sources[packet_count] = (uint16_t)strtol(at + 2, &at, 10);
+            while (*at == '\t')
+                hops[hop_count++] = (uint16_t)strtol(at + 1, &at, 10);
+            stops[packet_count++] = (uint16_t)hop_count;
+        }
+    }
+}
+
+/* ---- What is timed ---- */
+
+static uint8_t plan[ZHEVGULOR_PLAN_BYTES], fast[ZHEVGULOR_PLAN_BYTES];
+
+#define LISTS nodes, origins, link_count, ends, link_count, sources, packet_count, stops, packet_count, hops, hop_count
+
+static uint8_t spoilt[sizeof text];
+
+static void run_plan(void) { zhevgulor_plan(text, bytes, plan, sizeof plan); }
+static void run_read(void) { zhevgulor_plan(spoilt, bytes + 2, plan, sizeof plan); }
+static void run_tables(void) { zhevgulor_tables(LISTS); }
+static void run_starts(void) { zhevgulor_starts(LISTS, starts, packet_count); }
+static void run_text(void) { zhevgulor_plan_text(LISTS, starts, packet_count, plan, sizeof plan); }
+static void run_fast(void) { fast_plan(text, bytes, fast, sizeof fast); }
+static void run_fast_read(void) { fast_read(text, bytes); }
+static void run_fast_search(void) { fast_read(text, bytes), fast_search(); }
+static void run_fast_write(void) { fast_write(fast, sizeof fast); }
+
+enum { PLAN, READ, TABLES, STARTS, TEXT, FAST, FAST_READ, FAST_SEARCH, FAST_WRITE, TIMED };
+static void (*const timed[TIMED])(void) = { run_plan, run_read, run_tables, run_starts, run_text, run_fast, run_fast_read,
+                                            run_fast_search, run_fast_write };
+
+static double now(void)
+{
+    struct timespec t;
+    clock_gettime(CLOCK_MONOTONIC, &t);
+    return (double)t.tv_sec * 1e6 + (double)t.tv_nsec / 1e3;
+}
+
+static int by_size(const void *a, const void *b)
+{
+    double x = *(const double *)a, y = *(const double *)b;
+    return x < y ? -1 : x > y;
+}
+
+/* Microseconds of each, as medians of runs in turn. A run repeats a call until it has taken two milliseconds. */
+enum { RUNS = 15 };
+
+static void measure(double *median)
+{
+    static double took[TIMED][RUNS];
+    for (int i = 0; i < RUNS; i++)
+        for (int f = 0; f < TIMED; f++) {
+            double begun = now();
+            int times = 0;
+            do
+                timed[f](), times++;
+            while (now() - begun < 2000);
+            took[f][i] = (now() - begun) / times;
+        }
+    for (int f = 0; f < TIMED; f++) {
+        qsort(took[f], RUNS, sizeof took[f][0], by_size);
+        median[f] = took[f][RUNS / 2];
+    }
+}
+
+/* Both must print the same plan. */
+static void agree(const char *name)
+{
+    zhevgulor_answer a = zhevgulor_plan(text, bytes, plan, sizeof plan), b = fast_plan(text, bytes, fast, sizeof fast);
+    if (a.refusal || b.refusal || a.value != b.value || memcmp(plan, fast, a.value) != 0) {
+        fprintf(stderr, "bench: the two plans of '%s' differ\n", name);
+        exit(1);
+    }
+    zhevgulor_starts(LISTS, starts, packet_count);
+    memcpy(spoilt, text, bytes);
+    memcpy(spoilt + bytes, "X\n", 2);
+    if (zhevgulor_plan(spoilt, bytes + 2, plan, sizeof plan).refusal != 2)
+        exit(1);
+}
+
+/* ---- The table ---- */
+
+enum { READ_PART, TABLES_PART, SEARCH_PART, WRITE_PART, PARTS };
+static const char *const part_name[PARTS] = { "read", "tables", "search", "write" };
+static double planner_sum[PARTS], fast_sum[PARTS];
+
+static void line(const char *name, const char *shown, int packets)
+{
+    double t[TIMED];
+    make(name, packets);
+    make_lists();
+    agree(name);
+    measure(t);
+    const double part[PARTS] = { t[READ], 2 * t[TABLES], t[STARTS] - t[TABLES], t[TEXT] - t[TABLES] };
+    const double fast_part[PARTS] = { t[FAST_READ], 0, t[FAST_SEARCH] - t[FAST_READ], t[FAST_WRITE] };
+    printf("| %s | %zu | %zu | %.0f | %.0f | %.1f |", shown, bytes, fast_meetings(), t[PLAN], t[FAST], t[PLAN] / t[FAST]);
+    for (int p = 0; p < PARTS; p++) {
+        printf(" %.0f |", part[p]);
+        planner_sum[p] += part[p];
+        fast_sum[p] += fast_part[p];
+    }
+    printf(" %.0f | %.0f | %.0f |\n", fast_part[READ_PART], fast_part[SEARCH_PART], fast_part[WRITE_PART]);
+    fflush(stdout);
+}
+
+/* Reading and looking at tables are one part of fast.c, so they are held against it together. */
+static void furthest(void)
+{
+    double ratio[] = { (planner_sum[READ_PART] + planner_sum[TABLES_PART]) / fast_sum[READ_PART],
+                       planner_sum[SEARCH_PART] / fast_sum[SEARCH_PART], planner_sum[WRITE_PART] / fast_sum[WRITE_PART] };
+    static const char *const name[] = { "reading with the tables", "searching", "writing" };
+    int most = 0;
+    printf("\nOver all jobs together, times of fast.c:");
+    for (int i = 0; i < 3; i++) {
+        printf(" %s %.1f%s", name[i], ratio[i], i < 2 ? "," : ".\n");
+        most = ratio[i] > ratio[most] ? i : most;
+    }
+    printf("Furthest from the limit: %s.\n", name[most]);
+}
+
+int main(void)
+{
+    static const int packets[] = { 128, 256, 512, 1024 };
+    char shown[100];
+    printf("Times in microseconds, medians of %d runs in turn; ratio: planner to fast.c.\n\n", RUNS);
+    printf("| job | bytes | meetings | planner | fast.c | ratio |");
+    for (int p = 0; p < PARTS; p++)
+        printf(" %s |", part_name[p]);
+    printf(" fast read | fast search | fast write |\n|---|---|---|---|---|---|---|---|---|---|---|---|---|\n");
+    line("mesh", "mesh 12 × 12, 1,024 packets of 10 hops", 1024);
+    line("one link", "1,024 packets on one link", 1024);
+    line("one path", "1,024 packets on one path of 16 links", 1024);
+    line("long paths", "64 paths of 255 hops", 64);
+    line("cube", "cube of 8 dimensions, 256 packets", 256);
+    line("links only", "4,096 links, no packet", 0);
+    for (int i = 0; i < 4; i++) {
+        sprintf(shown, "growth: mesh, %d packets", packets[i]);
+        line("mesh", shown, packets[i]);
+    }
+    for (int i = 0; i < 4; i++) {
+        sprintf(shown, "growth: one link, %d packets", packets[i]);
+        line("one link", shown, packets[i]);
+    }
+    furthest();
+    return 0;
+}
