@@ -98,7 +98,7 @@ typedef struct {
     int32_t lead;   /* 0 if refused */
 } zhevgulor_lead_answer;
 
-/* From a job's text to its plan's text. On success `value` is the number of bytes written to `room`.
+/* From a job's text to its plan's text. On success `value` is the number of bytes written to `room`. It refuses by 1 to 8, or by 10.
  *
  * The job, with one tab between two fields and one line feed after every line, the last one too:
  *     N  number of nodes                     one line, the first

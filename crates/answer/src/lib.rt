@@ -9,6 +9,7 @@ ghost use Rattle.writer.specs.Told.{WrittenAs};
 ghost use Rattle.answer.specs.Told.{PrintedAs};
 use job::Job;
 use job::Verdict;
+use job::wide;
 use lines::writing;
 use reader::Reading;
 use writer::Written;
@@ -44,12 +45,6 @@ fn plan_text(
         &starts[0..packets],
         room,
     )
-}
-
-fn wide(x: u16) -> usize
-    ensures { λ r. ⌜ r ≡ x ⌝ }
-{
-    x as usize
 }
 
 // The plan's bytes for a job's bytes, in the lent room.

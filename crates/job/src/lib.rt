@@ -160,7 +160,8 @@ pub enum Verdict {
     Refused(Refusal),
 }
 
-fn wide(x: u16) -> usize
+// A number of 16 bits, as a place in a list.
+pub fn wide(x: u16) -> usize
     ensures { λ r. ⌜ r ≡ x ⌝ }
 {
     x as usize

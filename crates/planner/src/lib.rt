@@ -20,12 +20,7 @@ use job::Hop;
 use job::Refusal;
 use job::Step;
 use job::Verdict;
-
-fn wide(x: u16) -> usize
-    ensures { λ r. ⌜ r ≡ x ⌝ }
-{
-    x as usize
-}
+use job::wide;
 
 // Where packet k's path begins in the hops.
 fn begin(stops: &[u16], k: usize) -> usize

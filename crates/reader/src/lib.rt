@@ -16,6 +16,7 @@ use job::Refusal;
 use job::Verdict;
 use job::link_verdict;
 use job::packet_verdict;
+use job::wide;
 use lines::reading::Counted;
 use lines::reading::Lines;
 use lines::reading::NextLine;
@@ -28,12 +29,6 @@ use lines::reading::letter_of;
 pub enum Reading {
     Read(Job),
     Refused(Refusal),
-}
-
-fn wide(x: u16) -> usize
-    ensures { λ r. ⌜ r ≡ x ⌝ }
-{
-    x as usize
 }
 
 // A packet's source, and the place behind which the fields say the links of its path, so many.

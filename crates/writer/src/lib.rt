@@ -19,13 +19,8 @@ use job::Job;
 use job::Refusal;
 use job::Step;
 use job::Verdict;
+use job::wide;
 use lines::writing;
-
-fn wide(x: u16) -> usize
-    ensures { λ r. ⌜ r ≡ x ⌝ }
-{
-    x as usize
-}
 
 fn greater(a: u32, b: u32) -> u32
     ensures { λ r. ⌜ r ≡ max a b ⌝ }
