@@ -8,7 +8,7 @@ use Rattle.rules.specs.Network.{Job, paths}
 use Rattle.rules.specs.Outcome.{Outcome, is, refused, fine, onward}
 use Rattle.rules.specs.Greedy.{greedy}
 use Rattle.rules.specs.Answers.{lentAfter, planned, written}
-use Rattle.theorems.proofs.Verdicts.{refused-not-is, onward-of}
+use Rattle.theorems.proofs.Verdicts.{refused-not-is, refused-for, onward-of}
 use Rattle.theorems.proofs.Accepted.{tables-fine-iff, length-paths}
 use Rattle.theorems.proofs.Starts.{length-greedy}
 use Rattle.job.specs.declared.Refusal.{Refusal}
@@ -26,12 +26,9 @@ module _ (j : Job) (places : ℕ) {v : Verdict} {lent after : List ℕ} (p : Pla
   unfolding lentAfter
   plan-refused r e = go (planned j places) (rw e at (p .verdict))
     where
-      same : {n m k l : ℕ} → _≡_ {A = Outcome Unit} (refused n m) (refused k l) → _≡_ {A = Outcome ℕ} (refused n m) (refused k l)
-      same e = cc
-
       go : (o : Outcome (List ℕ)) → refusalOf r ≡ onward o (λ ss. fine) → WrittenAs (onward o (λ ss. written j ss (length room))) (TextRefused r) room room
       go (is ss) e = absurd (refused-not-is e)
-      go (refused n q) e = record { bytes = same e; room = refl }
+      go (refused n q) e = record { bytes = refused-for e; room = refl }
 
   pub plan-fits : v ≡ Fine → length (j .sources) ≤ length after
   plan-fits e =

@@ -13,7 +13,7 @@ use Rattle.rules.specs.Sizes.{planMost}
 use Rattle.rules.specs.Outcome.{Outcome, is, refused, onward}
 use Rattle.rules.specs.Bytes.{letterR, lineText}
 use Rattle.rules.specs.Answers.{inRoom, lentAfter, answer, answered, printed, plans}
-use Rattle.theorems.proofs.Verdicts.{refused-not-is, is-iff}
+use Rattle.theorems.proofs.Verdicts.{refused-not-is, refused-same, is-iff}
 use Rattle.theorems.proofs.Started.{answer-length}
 use Rattle.theorems.proofs.TextRefusals.{plans-length}
 use Rattle.job.specs.declared.Refusal.{Refusal}
@@ -51,13 +51,10 @@ module _ (text room : List ℕ) (fits : planMost ≤ length room) {told : Writte
   unfolding plans printed lentAfter
   refusal-printed r e {number} {place} n p {exit} {next} put = go (answer text) (plans-length text) (rw (same-answer, e) at a)
     where
-      same : {n m k l : ℕ} → _≡_ {A = Outcome ℕ} (refused n m) (refused k l) → (n ≡ k) × (m ≡ l)
-      same e = (cc, cc)
-
       go : (o : Outcome (List ℕ)) → length (printed o) ≤ planMost → WrittenAs o (Refused r) room after → PrintedAs (printed o) next room exit
       go (is plan) short w = absurd (refused-not-is (w .bytes))
       go (refused k l) short w =
-          let (nk, pl) = same (w .bytes) in
+          let (nk, pl) = refused-same (w .bytes) in
           let line = rw (n ∙ nk, p ∙ pl, w .room) at put in
           record {
             bytes = line .past ∙ zero-add _;

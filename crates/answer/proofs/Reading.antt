@@ -14,7 +14,7 @@ use Rattle.rules.specs.Bytes.{lineFeed, split}
 use Rattle.rules.specs.JobText.{reading, allLines}
 use Rattle.rules.specs.PlanText.{planText}
 use Rattle.rules.specs.Answers.{startedVerdict, inRoom, planned, written, answer, answered, lentAfter}
-use Rattle.theorems.proofs.Verdicts.{refused-not-is, is-iff, onward-is, onward-of}
+use Rattle.theorems.proofs.Verdicts.{refused-not-is, refused-for, is-iff, onward-is, onward-of}
 use Rattle.theorems.proofs.TextJobs.{reading-job, reading-accepted}
 use Rattle.theorems.proofs.Started.{greedy-started}
 use Rattle.theorems.proofs.Rows.{planned-iff}
@@ -46,12 +46,9 @@ pub answer-refused : (text room : List ℕ) (lent : Lists) {after : Lists} {told
 unfolding answered answer lentAfter
 answer-refused text room lent {r = r} h t a = go (reading text) (rw (read-in text lent h, t) at (a .answer))
   where
-    same : {n m k l : ℕ} → _≡_ {A = Outcome Counts} (refused n m) (refused k l) → _≡_ {A = Outcome ℕ} (refused n m) (refused k l)
-    same e = cc
-
     go : (o : Outcome Job) → refusalOf r ≡ onward o (λ j. is (countsOf j)) → WrittenAs (onward (onward o (λ j. is (planText j (greedy j)))) (λ plan. inRoom plan (length room))) (TextRefused r) room room
     go (is j) e = absurd (refused-not-is e)
-    go (refused n p) e = record { bytes = same e; room = refl }
+    go (refused n p) e = record { bytes = refused-for e; room = refl }
 
 -- ---- a text that is read
 

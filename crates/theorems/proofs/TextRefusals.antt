@@ -17,7 +17,7 @@ use Rattle.rules.specs.Outcome.{Outcome, is, refused, Verdict, must, _then_, on
 use Rattle.rules.specs.Tables.{linkVerdict, hop, walk, packetVerdict}
 use Rattle.rules.specs.JobText.{Line, nodes, link, packet, bad, lineOf, withLine, withLines, firstLine, allLines, reading}
 use Rattle.rules.specs.Answers.{answer, printed, plans}
-use Rattle.theorems.proofs.Verdicts.{refused-not-is}
+use Rattle.theorems.proofs.Verdicts.{refused-not-is, refused-same}
 use Rattle.theorems.proofs.Numbers.{decimal-length-le}
 use Rattle.theorems.proofs.TextPieces.{split-first}
 use Rattle.theorems.proofs.Started.{answer-length}
@@ -31,10 +31,10 @@ value : {A : Type 0} {last : ℕ} {a : A} → OfText last (is a)
 value = record { number = λ e. absurd (refused-not-is (sym e)); place = λ e. absurd (refused-not-is (sym e)) }
 
 refusal : {A : Type 0} {last n p : ℕ} → (1 ≤ n) × (n ≤ 8) → p ≤ last → OfText {A = A} last (refused n p)
-refusal {A} {last} {n} {p} l m =
+refusal l m =
     record {
-      number = λ {n = k} e. let s : n ≡ k = cc in (omega (arith, l .0, s), omega (arith, l .1, s));
-      place = λ {p = q} e. let s : p ≡ q = cc in omega (arith, m, s);
+      number = λ e. let (s, t) = refused-same e in (omega (arith, l .0, s), omega (arith, l .1, s));
+      place = λ e. let (s, t) = refused-same e in omega (arith, m, t);
     }
 
 in-turn : {A : Type 0} {last : ℕ} {v : Verdict} {o : Outcome A} → OfText last v → OfText last o → OfText last (v then o)

@@ -31,6 +31,13 @@ and-iff {s} {t} h k = Iff·trans (λ e. (and-left s t e, and-right s t e), λ e.
 pub refused-not-is : {A : Type 0} {n p : ℕ} {a : A} → refused n p ≡ is a → ⊥
 refused-not-is e = let z : _≡_ {A = ℕ} 0 1 = cc in omega arith
 
+pub refused-same : {A : Type 0} {n m k l : ℕ} → _≡_ {A = Outcome A} (refused n m) (refused k l) → (n ≡ k) × (m ≡ l)
+refused-same e = (cc, cc)
+
+-- a refusal is the same whatever value it stands for
+pub refused-for : {A B : Type 0} {n m k l : ℕ} → _≡_ {A = Outcome A} (refused n m) (refused k l) → _≡_ {A = Outcome B} (refused n m) (refused k l)
+refused-for e = cc
+
 pub is-iff : {A : Type 0} {a b : A} → (is a ≡ is b) ↔ (a ≡ b)
 is-iff {A} = (λ e. cc, ap {B = Outcome A} is)
 

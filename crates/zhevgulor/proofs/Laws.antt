@@ -17,7 +17,7 @@ use Rattle.rules.specs.Tables.{tables}
 use Rattle.rules.specs.Answers.{inRoom, lentAfter, planned, checked, led}
 use Rattle.rules.specs.Sizes.{packetsMost, leadMost}
 use Rattle.rules.specs.Greedy.{greedy}
-use Rattle.theorems.proofs.Verdicts.{refused-not-is}
+use Rattle.theorems.proofs.Verdicts.{refused-not-is, refused-for}
 use Rattle.theorems.proofs.Accepted.{tables-fine-iff, length-paths}
 use Rattle.theorems.proofs.Starts.{length-greedy}
 use Rattle.theorems.proofs.Started.{led-in-range}
@@ -80,12 +80,9 @@ module _ (j : Job) (room : ℕ) (v : Verdict) (lent after : List ℕ) (p : Plann
   pub starts-refused : (r : Refusal) (told : Answer) → v ≡ Refused r → told ≡ answerFor (refusalOf r) → LentAs (planned j room) told lent after
   starts-refused r told e t = record { answered = t ∙ ap answerFor (go (planned j room) (rw e at (p .verdict))); list = p .list }
     where
-      same : {n m k l : ℕ} → _≡_ {A = Outcome Unit} (refused n m) (refused k l) → _≡_ {A = Outcome ℕ} (refused n m) (refused k l)
-      same e = cc
-
       go : (o : Outcome (List ℕ)) → refusalOf r ≡ onward o (λ ss. fine) → refusalOf r ≡ onward o (λ ss. is (length ss))
       go (is ss) e = absurd (refused-not-is e)
-      go (refused n p) e = same e
+      go (refused n p) e = refused-for e
 
 -- ---- the check
 

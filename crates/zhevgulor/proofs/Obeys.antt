@@ -11,14 +11,11 @@ use lib.ListN.{length, take}
 use lib.Seq.{take-append-seam}
 use Rattle.rules.specs.Outcome.{Outcome, is, refused, must, _then_, onward}
 use Rattle.rules.specs.Answers.{inRoom, lentAfter, answer, answered}
-use Rattle.theorems.proofs.Verdicts.{refused-not-is}
+use Rattle.theorems.proofs.Verdicts.{refused-not-is, refused-same}
 use Rattle.theorems.proofs.TextRefusals.{OfText, answer-of-text}
 use Rattle.answer.proofs.Obeys.{Obeyed, answer-obeys}
 use Rattle.zhevgulor.specs.declared.Answer.{Answer}
 use Rattle.zhevgulor.specs.Told.{answerFor, LentAs}
-
-same-number : {A : Type 0} {n m k l : ℕ} → _≡_ {A = Outcome A} (refused n m) (refused k l) → n ≡ k
-same-number e = cc
 
 pub answered-refuses : (text : List ℕ) (room : ℕ) {n p : ℕ} → answered text room ≡ refused n p → ((1 ≤ n) × (n ≤ 8)) ⊎ (n ≡ 10)
 unfolding answered inRoom
@@ -26,11 +23,11 @@ answered-refuses text room {n} {p} e = go (answer text) (answer-of-text text) e
   where
     short : (t : Bool) (plan : List ℕ) → must t 10 0 then is plan ≡ refused n p → n ≡ 10
     short true plan e = absurd (refused-not-is (sym e))
-    short false plan e = sym (same-number e)
+    short false plan e = sym (refused-same e .0)
 
     go : (o : Outcome (List ℕ)) {last : ℕ} → OfText last o → onward o (λ plan. inRoom plan room) ≡ refused n p → ((1 ≤ n) × (n ≤ 8)) ⊎ (n ≡ 10)
     go (is plan) h e = inr (short (leb (length plan) room) plan e)
-    go (refused k q) h e = inl (rw (sym (same-number e)) (h .number refl))
+    go (refused k q) h e = inl (rw (sym (refused-same e .0)) (h .number refl))
 
 module _ (text lent : List ℕ) {told : Answer} {after : List ℕ} (w : LentAs (answered text (length lent)) told lent after) where
   pub plan-obeys : told .refusal ≡ 0 → Obeyed text (take (told .value) after)
