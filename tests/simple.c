@@ -567,8 +567,8 @@ int starts_in_gaps(const struct job *job, const int *start)
 
 /* ---- Lent lists ---- */
 
-/* 10 exactly if the list is shorter than the answer, and then it stays as it was. Otherwise the answer takes the first places, all
- * others stay as they were, and its length is the value. */
+/* An answer that does not fit its list is 10, and the list stays as it was. One that fits takes the first places, all others stay
+ * as they were, and its length is the value. */
 static struct answer deliver(const void *found, size_t count, size_t size, void *room, size_t room_count)
 {
     if (count + (size_t)planted(EXACT_ROOM_REFUSED) > room_count) {

@@ -87,7 +87,7 @@ pub struct Hop(pub u16);
 pub struct Step(pub u32);
 
 impl Step {
-    // Only a start added to a hop position gives a step.
+    // A step comes of a start and a hop position, and of nothing else.
     pub fn of(start: u16, hop: Hop) -> Step
         ensures { λ r. ⌜ r .0 ≡ start + hop .0 ⌝ }
     {
