@@ -1,12 +1,11 @@
 -- The planner's answer, then the writer's.
-use mathlib.Core.Path.{_≡_, refl, sym, ap, _∙_}
-use mathlib.Core.List.{List, []}
+use mathlib.Core.Path.{_≡_, refl, ap, _∙_}
+use mathlib.Core.List.{List}
 use Prim.Native.Nat.{ℕ, _-_, _≤_}
 use native.Mathlib.Omega.{arith}
 use lib.ListN.{length, take, length-take}
 use Rattle.rules.specs.Network.{Job, paths}
 use Rattle.rules.specs.Outcome.{Outcome, is, refused, fine, onward}
-use Rattle.rules.specs.Greedy.{greedy}
 use Rattle.rules.specs.Answers.{lentAfter, planned, written}
 use Rattle.theorems.proofs.Verdicts.{refused-not-is, refused-for, onward-of}
 use Rattle.theorems.proofs.Accepted.{tables-fine-iff, length-paths}

@@ -1,7 +1,7 @@
 -- Demands 2 and 3 of the answer from bytes: a plan that is told is the greedy plan of the job that the text says, within the bounds.
 use mathlib.Core.Path.{_≡_, sym, _∙_}
 use mathlib.Core.List.{List}
-use Prim.Native.Nat.{ℕ, _≤_}
+use Prim.Native.Nat.{ℕ}
 use lib.Dec.{leb}
 use lib.ListN.{length}
 use Rattle.rules.specs.Network.{Job}

@@ -1,5 +1,5 @@
 -- From the answer from bytes to what is printed, in a room that every plan fits.
-use mathlib.Core.Path.{_≡_, refl, sym, ap, _∙_}
+use mathlib.Core.Path.{_≡_, refl, sym, _∙_}
 use mathlib.Core.Bool.{true}
 use mathlib.Core.List.{List, [], _∷_}
 use Prim.Native.Nat.{ℕ, _≤_}
@@ -17,7 +17,7 @@ use Rattle.theorems.proofs.Verdicts.{refused-not-is, refused-same, is-iff}
 use Rattle.theorems.proofs.Started.{answer-length}
 use Rattle.theorems.proofs.TextRefusals.{plans-length}
 use Rattle.job.specs.declared.Refusal.{Refusal}
-use Rattle.job.specs.Told.{numberPlace, refusalOf}
+use Rattle.job.specs.Told.{numberPlace}
 use Rattle.lines.specs.Put.{Put}
 use Rattle.writer.specs.declared.Written.{Written}
 use Rattle.writer.specs.declared.Written.the-variants.{Bytes, Refused}

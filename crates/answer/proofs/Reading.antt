@@ -1,20 +1,20 @@
 -- From what the reader leaves in its lists to the answer from bytes.
 use mathlib.Core.Path.{_≡_, refl, sym, ap, _∙_}
 use mathlib.Core.Bool.{Bool, true, false}
-use mathlib.Core.List.{List, _++_}
+use mathlib.Core.List.{List}
 use Prim.Native.Nat.{ℕ, _-_, _≤_}
 use native.Mathlib.Omega.{arith}
 use lib.Dec.{leb}
 use lib.ListN.{length, take, replicate, length-append, length-replicate}
 use Rattle.rules.specs.Sizes.{textMost, linksMost, packetsMost, hopsMost}
 use Rattle.rules.specs.Network.{Job}
-use Rattle.rules.specs.Outcome.{Outcome, is, refused, fine, must, _then_, onward}
+use Rattle.rules.specs.Outcome.{Outcome, is, refused, must, _then_, onward}
 use Rattle.rules.specs.Greedy.{greedy}
 use Rattle.rules.specs.Bytes.{lineFeed, split}
 use Rattle.rules.specs.JobText.{reading, allLines}
 use Rattle.rules.specs.PlanText.{planText}
-use Rattle.rules.specs.Answers.{startedVerdict, inRoom, planned, written, answer, answered, lentAfter}
-use Rattle.theorems.proofs.Verdicts.{refused-not-is, refused-for, is-iff, onward-is, onward-of}
+use Rattle.rules.specs.Answers.{inRoom, planned, written, answer, answered, lentAfter}
+use Rattle.theorems.proofs.Verdicts.{refused-not-is, refused-for, is-iff, onward-is}
 use Rattle.theorems.proofs.TextJobs.{reading-job, reading-accepted}
 use Rattle.theorems.proofs.Started.{greedy-started}
 use Rattle.theorems.proofs.Rows.{planned-iff}

@@ -1,5 +1,4 @@
 // From a job's text to its plan's text, and to what is printed: reader, planner and writer in a row.
-ghost use mathlib.Core.Path.{_≡_};
 ghost use Prim.Native.Nat.{_≤_};
 ghost use Rattle.rules.specs.Outcome.{onward};
 ghost use lib.ListN.{length};

@@ -55,7 +55,7 @@ written j starts room = startedVerdict j starts then inRoom (planText j starts) 
 unfoldable pub answer : List ℕ → Outcome (List ℕ)
 answer text = onward (reading text) (λ j. is (planText j (greedy j)))
 
--- and with room for so many bytes
+-- the same with room for so many bytes: 10 comes after every other refusal
 unfoldable pub answered : List ℕ → ℕ → Outcome (List ℕ)
 answered text room = onward (answer text) (λ plan. inRoom plan room)
 

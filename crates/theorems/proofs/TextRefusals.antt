@@ -11,7 +11,7 @@ use lib.ListN.{length, length-append}
 use borrow.Author.Tests.{leb-true}
 use Rattle.counting.specs.Count.{among, pick}
 use Rattle.rules.specs.Sizes.{textMost, nodesMost, linksMost, packetsMost, pathMost, hopsMost, planMost}
-use Rattle.rules.specs.Bytes.{letterR, decimal, fieldsText, lineText, onto, split, lineFeed}
+use Rattle.rules.specs.Bytes.{fieldsText, lineText, onto, split, lineFeed}
 use Rattle.rules.specs.Network.{Network, Link, linkAt, Job}
 use Rattle.rules.specs.Outcome.{Outcome, is, refused, Verdict, must, _then_, onward}
 use Rattle.rules.specs.Tables.{linkVerdict, hop, walk, packetVerdict}

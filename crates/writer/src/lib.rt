@@ -5,7 +5,7 @@ ghost use Prim.Native.Nat.{ℕ, _+_, _*_, _≤_, _<_, max};
 ghost use lib.ListN.{length, getD};
 ghost use Rattle.counting.specs.Count.{maxOf};
 ghost use Rattle.counting.proofs.Hits.{occurs};
-ghost use Rattle.rules.specs.Sizes.{linksMost, packetsMost, hopsMost};
+ghost use Rattle.rules.specs.Sizes.{linksMost, packetsMost};
 ghost use Rattle.rules.specs.Network.{Job as RuledJob};
 ghost use Rattle.rules.specs.Counts.{routingTime};
 ghost use Rattle.rules.specs.PlanText.{packetLines, planText};

@@ -1,7 +1,6 @@
 -- `plan::read_all` meets its contract: what was read is never more than the list holds.
 use mathlib.Core.Path.{_≡_}
 use Prim.Native.Nat.{_-_, _≤_}
-use native.Mathlib.Omega.{arith}
 use lib.ListN.{length}
 use borrow.Author.Needs.{needs}
 use Rattle.plan.proofs.read_all.Statement.{statement}
