@@ -16,9 +16,9 @@ use Rattle.job.specs.declared.Verdict.the-variants.{Fine, Refused}
 use Rattle.job.specs.Told.{refusalOf}
 use Rattle.planner.specs.Told.{PlannedAs}
 use Rattle.planner.proofs.Obeys.{planned-greedy, plan-writes-greedy}
-use Rattle.writer.specs.declared.Written.{Written}
-use Rattle.writer.specs.declared.Written.the-variants.{Refused as TextRefused}
-use Rattle.writer.specs.Told.{WrittenAs}
+use Rattle.plan_text.specs.declared.Written.{Written}
+use Rattle.plan_text.specs.declared.Written.the-variants.{Refused as TextRefused}
+use Rattle.plan_text.specs.Told.{WrittenAs}
 
 module _ (j : Job) (places : ℕ) {v : Verdict} {lent after : List ℕ} (p : PlannedAs (planned j places) v lent after) (room : List ℕ) where
   pub plan-refused : (r : Refusal) → v ≡ Refused r → WrittenAs (onward (planned j places) (λ ss. written j ss (length room))) (TextRefused r) room room

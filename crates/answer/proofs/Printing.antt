@@ -19,9 +19,9 @@ use Rattle.theorems.proofs.TextRefusals.{plans-length}
 use Rattle.job.specs.declared.Refusal.{Refusal}
 use Rattle.job.specs.Told.{numberPlace}
 use Rattle.lines.specs.Put.{Put}
-use Rattle.writer.specs.declared.Written.{Written}
-use Rattle.writer.specs.declared.Written.the-variants.{Bytes, Refused}
-use Rattle.writer.specs.Told.{WrittenAs}
+use Rattle.plan_text.specs.declared.Written.{Written}
+use Rattle.plan_text.specs.declared.Written.the-variants.{Bytes, Refused}
+use Rattle.plan_text.specs.Told.{WrittenAs}
 use Rattle.answer.specs.Told.{PrintedAs}
 
 pub printed-fits : {text lent after : List ℕ} {count : ℕ} → PrintedAs text count lent after → count ≤ length after

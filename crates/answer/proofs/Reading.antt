@@ -22,14 +22,14 @@ use Rattle.job.specs.declared.Job.{Job as Counts}
 use Rattle.job.specs.declared.Refusal.{Refusal}
 use Rattle.job.specs.Lists.{jobOf}
 use Rattle.job.specs.Told.{refusalOf}
-use Rattle.reader.specs.declared.Reading.{Reading}
-use Rattle.reader.specs.declared.Reading.the-variants.{Read, Refused}
-use Rattle.reader.specs.Told.{Lists, lists, roomFor, roomy, readIn, filled, countsOf, ReadAs}
-use Rattle.reader.specs.SoFar.{soFar}
-use Rattle.reader.proofs.Accepts.{read-stands}
-use Rattle.writer.specs.declared.Written.{Written}
-use Rattle.writer.specs.declared.Written.the-variants.{Refused as TextRefused}
-use Rattle.writer.specs.Told.{WrittenAs}
+use Rattle.job_text.specs.declared.Reading.{Reading}
+use Rattle.job_text.specs.declared.Reading.the-variants.{Read, Refused}
+use Rattle.job_text.specs.Told.{Lists, lists, roomFor, roomy, readIn, filled, countsOf, ReadAs}
+use Rattle.job_text.specs.SoFar.{soFar}
+use Rattle.job_text.proofs.Accepts.{read-stands}
+use Rattle.plan_text.specs.declared.Written.{Written}
+use Rattle.plan_text.specs.declared.Written.the-variants.{Refused as TextRefused}
+use Rattle.plan_text.specs.Told.{WrittenAs}
 
 -- lists that have their sizes are never refused
 read-in : (text : List ℕ) (lent : Lists) → roomy lent ≡ true → readIn text lent ≡ reading text

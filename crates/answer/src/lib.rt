@@ -4,17 +4,17 @@ ghost use Rattle.rules.specs.Outcome.{onward};
 ghost use lib.ListN.{length};
 ghost use Rattle.rules.specs.Answers.{answered, planned, plans, written};
 ghost use Rattle.job.specs.Lists.{jobOf};
-ghost use Rattle.writer.specs.Told.{WrittenAs};
+ghost use Rattle.plan_text.specs.Told.{WrittenAs};
 ghost use Rattle.answer.specs.Told.{PrintedAs};
 use job::Job;
 use job::Verdict;
 use job::wide;
+use job_text::Reading;
 use lines::writing;
-use reader::Reading;
-use writer::Written;
+use plan_text::Written;
 
 // The greedy plan of a job as lists, whose starts are found in a lent list.
-fn plan_text(
+fn planned_text(
     nodes: u16,
     origins: &[u16],
     ends: &[u16],
@@ -34,7 +34,7 @@ fn plan_text(
         Verdict::Fine => {}
     }
     let packets = sources.len();
-    writer::write(
+    plan_text::write(
         nodes,
         origins,
         ends,
@@ -55,7 +55,7 @@ pub fn answer(text: &[u8], room: &mut [u8]) -> Written
     let mut sources = [0; Job::PACKETS];
     let mut stops = [0; Job::PACKETS];
     let mut hops = [0; Job::HOPS];
-    let reading = reader::read(
+    let reading = job_text::read(
         text,
         &mut origins,
         &mut ends,
@@ -69,7 +69,7 @@ pub fn answer(text: &[u8], room: &mut [u8]) -> Written
             let mut starts = [0; Job::PACKETS];
             let links = wide(job.links);
             let packets = wide(job.packets);
-            plan_text(
+            planned_text(
                 job.nodes,
                 &origins[0..links],
                 &ends[0..links],

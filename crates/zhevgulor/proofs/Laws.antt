@@ -33,8 +33,8 @@ use Rattle.planner.specs.declared.Led.{Led}
 use Rattle.planner.specs.declared.Led.the-variants.{By, Refused as LeadRefused}
 use Rattle.planner.specs.Told.{PlannedAs, checkedOf, ledOf}
 use Rattle.planner.proofs.Obeys.{planned-greedy}
-use Rattle.writer.specs.declared.Written.{Written}
-use Rattle.writer.specs.Told.{writtenOf, WrittenAs}
+use Rattle.plan_text.specs.declared.Written.{Written}
+use Rattle.plan_text.specs.Told.{writtenOf, WrittenAs}
 use Rattle.zhevgulor.specs.declared.Answer.{Answer}
 use Rattle.zhevgulor.specs.Told.{answerFor, leadFor, LentAs, checkedIn}
 

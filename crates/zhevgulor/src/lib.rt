@@ -7,14 +7,14 @@ ghost use Rattle.rules.specs.Tables.{tables as tablesVerdict};
 ghost use Rattle.rules.specs.Answers.{planned, led, inRoom, written, answered};
 ghost use Rattle.job.specs.Lists.{jobOf};
 ghost use Rattle.job.specs.Told.{refusalOf};
-ghost use Rattle.writer.specs.Told.{writtenOf};
+ghost use Rattle.plan_text.specs.Told.{writtenOf};
 ghost use Rattle.zhevgulor.specs.Told.{answerFor, leadFor, LentAs, checkedIn};
 use job::Refusal;
 use job::Step;
 use job::Verdict;
+use plan_text::Written;
 use planner::Checked;
 use planner::Led;
-use writer::Written;
 
 // Refusal 0 and a value, or a refusal's number and its place.
 #[repr(C)]
@@ -195,7 +195,7 @@ pub extern "C" fn zhevgulor_plan_text(
 ) -> Answer
     ensures { λ r. ⌜ LentAs (written (jobOf nodes (now (origins .entry)) (now (ends .entry)) (now (sources .entry)) (now (stops .entry)) (now (hops .entry))) (now (starts .entry)) (length (now (room .entry)))) r (now (room .entry)) (now (room .exit)) ⌝ }
 {
-    let text = writer::write(nodes, origins, ends, sources, stops, hops, starts, room);
+    let text = plan_text::write(nodes, origins, ends, sources, stops, hops, starts, room);
     told(text)
 }
 

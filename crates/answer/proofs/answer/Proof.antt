@@ -34,59 +34,59 @@ wide-requires c κs = search needs
 wide-requires-2 : tie.Need-wide-requires-2
 wide-requires-2 c κs = search needs
 
-sub-plan-text : tie.Need-sub-plan-text
-sub-plan-text c = search needs
+sub-planned-text : tie.Need-sub-planned-text
+sub-planned-text c = search needs
 
-part-plan-text-start : tie.Need-part-plan-text-start
-part-plan-text-start c = search needs
+part-planned-text-start : tie.Need-part-planned-text-start
+part-planned-text-start c = search needs
 
-part-plan-text-end : tie.Need-part-plan-text-end
-part-plan-text-end c = counted (c .before .before .wide .ensures) (read-holds _ roomy-arrays (c .before .before .before .before .reading2 .given .1) (c .before .before .before .before .before .before .before .before .before .before .before .read .ensures) .origins)
+part-planned-text-end : tie.Need-part-planned-text-end
+part-planned-text-end c = counted (c .before .before .wide .ensures) (read-holds _ roomy-arrays (c .before .before .before .before .reading2 .given .1) (c .before .before .before .before .before .before .before .before .before .before .before .read .ensures) .origins)
 
-sub-plan-text-2 : tie.Need-sub-plan-text-2
-sub-plan-text-2 c = search needs
+sub-planned-text-2 : tie.Need-sub-planned-text-2
+sub-planned-text-2 c = search needs
 
-part-plan-text-start-2 : tie.Need-part-plan-text-start-2
-part-plan-text-start-2 c = search needs
+part-planned-text-start-2 : tie.Need-part-planned-text-start-2
+part-planned-text-start-2 c = search needs
 
-part-plan-text-end-2 : tie.Need-part-plan-text-end-2
-part-plan-text-end-2 c = counted (c .before .before .before .before .wide .ensures) (read-holds _ roomy-arrays (c .before .before .before .before .before .before .reading2 .given .1) (c .before .before .before .before .before .before .before .before .before .before .before .before .before .read .ensures) .ends)
+part-planned-text-end-2 : tie.Need-part-planned-text-end-2
+part-planned-text-end-2 c = counted (c .before .before .before .before .wide .ensures) (read-holds _ roomy-arrays (c .before .before .before .before .before .before .reading2 .given .1) (c .before .before .before .before .before .before .before .before .before .before .before .before .before .read .ensures) .ends)
 
-sub-plan-text-3 : tie.Need-sub-plan-text-3
-sub-plan-text-3 c = search needs
+sub-planned-text-3 : tie.Need-sub-planned-text-3
+sub-planned-text-3 c = search needs
 
-part-plan-text-start-3 : tie.Need-part-plan-text-start-3
-part-plan-text-start-3 c = search needs
+part-planned-text-start-3 : tie.Need-part-planned-text-start-3
+part-planned-text-start-3 c = search needs
 
-part-plan-text-end-3 : tie.Need-part-plan-text-end-3
-part-plan-text-end-3 c = counted (c .before .before .before .before .before .wide2 .ensures) (read-holds _ roomy-arrays (c .before .before .before .before .before .before .before .before .reading2 .given .1) (c .before .before .before .before .before .before .before .before .before .before .before .before .before .before .before .read .ensures) .sources)
+part-planned-text-end-3 : tie.Need-part-planned-text-end-3
+part-planned-text-end-3 c = counted (c .before .before .before .before .before .wide2 .ensures) (read-holds _ roomy-arrays (c .before .before .before .before .before .before .before .before .reading2 .given .1) (c .before .before .before .before .before .before .before .before .before .before .before .before .before .before .before .read .ensures) .sources)
 
-sub-plan-text-4 : tie.Need-sub-plan-text-4
-sub-plan-text-4 c = search needs
+sub-planned-text-4 : tie.Need-sub-planned-text-4
+sub-planned-text-4 c = search needs
 
-part-plan-text-start-4 : tie.Need-part-plan-text-start-4
-part-plan-text-start-4 c = search needs
+part-planned-text-start-4 : tie.Need-part-planned-text-start-4
+part-planned-text-start-4 c = search needs
 
-part-plan-text-end-4 : tie.Need-part-plan-text-end-4
-part-plan-text-end-4 c = counted (c .before .before .before .before .before .before .before .wide2 .ensures) (read-holds _ roomy-arrays (c .before .before .before .before .before .before .before .before .before .before .reading2 .given .1) (c .before .before .before .before .before .before .before .before .before .before .before .before .before .before .before .before .before .read .ensures) .stops)
+part-planned-text-end-4 : tie.Need-part-planned-text-end-4
+part-planned-text-end-4 c = counted (c .before .before .before .before .before .before .before .wide2 .ensures) (read-holds _ roomy-arrays (c .before .before .before .before .before .before .before .before .before .before .reading2 .given .1) (c .before .before .before .before .before .before .before .before .before .before .before .before .before .before .before .before .before .read .ensures) .stops)
 
 wide-requires-3 : tie.Need-wide-requires-3
 wide-requires-3 c κs = search needs
 
-sub-plan-text-5 : tie.Need-sub-plan-text-5
-sub-plan-text-5 c = search needs
+sub-planned-text-5 : tie.Need-sub-planned-text-5
+sub-planned-text-5 c = search needs
 
-part-plan-text-start-5 : tie.Need-part-plan-text-start-5
-part-plan-text-start-5 c = search needs
+part-planned-text-start-5 : tie.Need-part-planned-text-start-5
+part-planned-text-start-5 c = search needs
 
-part-plan-text-end-5 : tie.Need-part-plan-text-end-5
-part-plan-text-end-5 c = counted (c .before .wide3 .ensures) (read-holds _ roomy-arrays (c .before .before .before .before .before .before .before .before .before .before .before .before .before .reading2 .given .1) (c .before .before .before .before .before .before .before .before .before .before .before .before .before .before .before .before .before .before .before .before .read .ensures) .hops)
+part-planned-text-end-5 : tie.Need-part-planned-text-end-5
+part-planned-text-end-5 c = counted (c .before .wide3 .ensures) (read-holds _ roomy-arrays (c .before .before .before .before .before .before .before .before .before .before .before .before .before .reading2 .given .1) (c .before .before .before .before .before .before .before .before .before .before .before .before .before .before .before .before .before .before .before .before .read .ensures) .hops)
 
-slice-aggregate-plan-text : tie.Need-slice-aggregate-plan-text
-slice-aggregate-plan-text c = search needs
+slice-aggregate-planned-text : tie.Need-slice-aggregate-planned-text
+slice-aggregate-planned-text c = search needs
 
-plan-text-requires : tie.Need-plan-text-requires
-plan-text-requires c κs = search needs
+planned-text-requires : tie.Need-planned-text-requires
+planned-text-requires c κs = search needs
 
 returns : tie.Need-returns
 returns c = answer-refused _ _ _ roomy-arrays (c .before .reading .given .1) (c .before .before .before .before .before .before .before .before .read .ensures)
@@ -95,7 +95,7 @@ same-length : tie.Need-same-length
 same-length c = search needs
 
 returns-2 : tie.Need-returns-2
-returns-2 c = answer-read _ roomy-arrays (c .before .before .before .before .before .before .before .before .before .before .before .before .before .before .before .before .before .before .before .before .reading2 .given .1) (c .before .before .before .before .before .before .before .before .before .before .before .before .before .before .before .before .before .before .before .before .before .before .before .before .before .before .before .read .ensures) _ _ places (c .before .before .before .before .before .before .before .before .before .before .before .before .before .before .before .before .before .before .wide .ensures) (c .before .before .before .before .before .before .before .before .before .before .before .before .before .before .before .before .before .wide2 .ensures) (c .before .before .before .before .before .before .before .before .wide3 .ensures) (c .before .before .before .plan-text .ensures)
+returns-2 c = answer-read _ roomy-arrays (c .before .before .before .before .before .before .before .before .before .before .before .before .before .before .before .before .before .before .before .before .reading2 .given .1) (c .before .before .before .before .before .before .before .before .before .before .before .before .before .before .before .before .before .before .before .before .before .before .before .before .before .before .before .read .ensures) _ _ places (c .before .before .before .before .before .before .before .before .before .before .before .before .before .before .before .before .before .before .wide .ensures) (c .before .before .before .before .before .before .before .before .before .before .before .before .before .before .before .before .before .wide2 .ensures) (c .before .before .before .before .before .before .before .before .wide3 .ensures) (c .before .before .before .planned-text .ensures)
 
 pub answer-spec : {M : Type 1} → statement M
 answer-spec =
@@ -111,24 +111,24 @@ answer-spec =
     enum-known-reading-2
     wide-requires
     wide-requires-2
-    sub-plan-text
-    part-plan-text-start
-    part-plan-text-end
-    sub-plan-text-2
-    part-plan-text-start-2
-    part-plan-text-end-2
-    sub-plan-text-3
-    part-plan-text-start-3
-    part-plan-text-end-3
-    sub-plan-text-4
-    part-plan-text-start-4
-    part-plan-text-end-4
+    sub-planned-text
+    part-planned-text-start
+    part-planned-text-end
+    sub-planned-text-2
+    part-planned-text-start-2
+    part-planned-text-end-2
+    sub-planned-text-3
+    part-planned-text-start-3
+    part-planned-text-end-3
+    sub-planned-text-4
+    part-planned-text-start-4
+    part-planned-text-end-4
     wide-requires-3
-    sub-plan-text-5
-    part-plan-text-start-5
-    part-plan-text-end-5
-    slice-aggregate-plan-text
-    plan-text-requires
+    sub-planned-text-5
+    part-planned-text-start-5
+    part-planned-text-end-5
+    slice-aggregate-planned-text
+    planned-text-requires
     returns
     same-length
     returns-2)

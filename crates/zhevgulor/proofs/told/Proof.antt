@@ -2,7 +2,7 @@
 use mathlib.Core.Path.{_∙_, sym, ap}
 use Rattle.zhevgulor.specs.declared.Answer.{Answer}
 use Rattle.zhevgulor.specs.Told.{answerFor}
-use Rattle.writer.specs.Told.{writtenOf}
+use Rattle.plan_text.specs.Told.{writtenOf}
 use borrow.Author.Needs.{needs}
 use Rattle.zhevgulor.proofs.told.Statement.{statement}
 use Rattle.zhevgulor.proofs.told.Tie as tie

@@ -1,0 +1,64 @@
+-- The first places of a list and then zeros: step by step; and what the lists hold in the end.
+use mathlib.Core.Path.{_≡_, refl, sym, ap, _∙_}
+use mathlib.Core.List.{List, append-nil}
+use Prim.Native.Nat.{ℕ, suc, _+_, _-_, _≤_, _<_}
+use native.Mathlib.Numerals.{add-one}
+use native.Mathlib.Omega.{arith}
+use lib.ListN.{length, take, set, length-append, length-set}
+use lib.Seq.{length-take-le, take-all, take-suc-set, append-snoc}
+use Rattle.rules.specs.Network.{Job}
+use Rattle.rules.specs.Outcome.{Outcome, is}
+use Rattle.job.specs.declared.Job.{Job as Counts}
+use Rattle.job_text.specs.declared.Reading.{Reading}
+use Rattle.job_text.specs.declared.Reading.the-variants.{Read, Refused}
+use Rattle.job_text.specs.Told.{Lists, filled, countsOf, ReadAs}
+use Rattle.job_text.specs.SoFar.{soFar, Room, Within, Took, front, Fronts, keptOf}
+use Rattle.job_text.proofs.Adding.{length-links, length-packets, length-hops}
+use Rattle.job_text.proofs.Late.{Late}
+use Rattle.job_text.proofs.LineByLine.{SameLengths}
+
+pub front-on : (list : List ℕ) (i : ℕ) → i < length list → front i list ≡ front (i + 1) (set list i 0)
+unfolding filled
+front-on list i h =
+    let l : length (take i list) ≡ i = length-take-le i list (omega arith) in
+    let n : length list - i ≡ suc (length list - (i + 1)) = omega arith in
+    rw (add-one i, take-suc-set list i 0 h, length-set, length-append, l, append-snoc, n)
+
+pub front-all : (list : List ℕ) (i : ℕ) → length list ≤ i → front i list ≡ list
+unfolding filled
+front-all list i h =
+    let n : length list - length list ≡ 0 = omega arith in
+    rw (take-all i list, n, append-nil)
+
+-- ---- the lists in the end
+
+filled-same : (xs : List ℕ) (lent list : List ℕ) → length list ≡ length lent → filled xs list ≡ filled xs lent
+unfolding filled
+filled-same xs lent list e = rw e
+
+counts-so-far : (c : Counts) (l : Lists) → Room l → Within c → countsOf (soFar c l) ≡ c
+counts-so-far c l room w = rw (length-links c l room w, length-packets c l room w, length-hops c l room w)
+
+-- the first places that stay are the job's, or none
+pub cleared : {o : Outcome Job} (told : Reading) {lent mid after : Lists} → Late o → Took o told mid → Room mid → SameLengths lent mid → Fronts (keptOf told) mid after → ReadAs o told lent after
+cleared (Read c) {lent} {mid} h t room s f =
+    rw (← t .read)
+    (record {
+      answer = ap is (sym (counts-so-far c mid room (t .within)));
+      origins = f .origins ∙ filled-same _ _ _ (s .origins);
+      ends = f .ends ∙ filled-same _ _ _ (s .ends);
+      sources = f .sources ∙ filled-same _ _ _ (s .sources);
+      stops = f .stops ∙ filled-same _ _ _ (s .stops);
+      hops = f .hops ∙ filled-same _ _ _ (s .hops);
+    })
+cleared (Refused r) h t room s f =
+    let late = rw (← t .read) at h in
+    rw (← t .read)
+    (record {
+      answer = refl;
+      origins = rw late (f .origins ∙ filled-same _ _ _ (s .origins));
+      ends = rw late (f .ends ∙ filled-same _ _ _ (s .ends));
+      sources = rw late (f .sources ∙ filled-same _ _ _ (s .sources));
+      stops = rw late (f .stops ∙ filled-same _ _ _ (s .stops));
+      hops = rw late (f .hops ∙ filled-same _ _ _ (s .hops));
+    })

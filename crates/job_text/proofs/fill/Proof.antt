@@ -1,0 +1,64 @@
+-- `job_text::fill` meets its contract: what is read stays in the first places, and nothing of a text that is refused.
+use denote.Ref.{now}
+use Rattle.rules.specs.Bytes.{lineFeed, split}
+use Rattle.job_text.specs.Told.{lists}
+use Rattle.job_text.proofs.Clearing.{cleared}
+use Rattle.job_text.proofs.Late.{late-all}
+use Rattle.job_text.proofs.LineByLine.{SameLengths, room-kept}
+use borrow.Author.Needs.{needs}
+use Rattle.job_text.proofs.fill.Statement.{statement}
+use Rattle.job_text.proofs.fill.Tie as tie
+
+read-lines-requires : tie.Need-read-lines-requires
+read-lines-requires c κs = search needs
+
+-- the lists that are filled are as long as those that were lent
+same : (c : tie.After-read-lines)
+    → let a = c .before .before .before .before .before .before .before .before .before .before .before .before .args in
+    let after = c .read-lines .last .1 in
+    SameLengths (lists (now (a .origins)) (now (a .ends)) (now (a .sources)) (now (a .stops)) (now (a .hops))) (lists (after .0) (after .1 .0) (after .1 .1 .0) (after .1 .1 .1 .0) (after .1 .1 .1 .1 .0))
+same c =
+    let k = c .read-lines .kept .1 in
+    record { origins = k .0; ends = k .1 .0; sources = k .1 .1 .0; stops = k .1 .1 .1 .0; hops = k .1 .1 .1 .1 .0 }
+
+kept-requires : tie.Need-kept-requires
+kept-requires c κs = search needs
+
+clear-past-requires : tie.Need-clear-past-requires
+clear-past-requires c κs = search needs
+
+same-length : tie.Need-same-length
+same-length c = search needs
+
+same-length-2 : tie.Need-same-length-2
+same-length-2 c = search needs
+
+same-length-3 : tie.Need-same-length-3
+same-length-3 c = search needs
+
+same-length-4 : tie.Need-same-length-4
+same-length-4 c = search needs
+
+same-length-5 : tie.Need-same-length-5
+same-length-5 c = search needs
+
+returns : tie.Need-returns
+returns c =
+    let r = c .before .before .before .before .before .before .before .before .before .before .before .before .before .before .before .before .before .before .before .before .before .before .before .before .before .before .before in
+    let s = same r in
+    let a = r .before .before .before .before .before .before .before .before .before .before .before .before in
+    cleared _ (late-all (split lineFeed (now (a .args .text)))) (r .read-lines .ensures) (room-kept s (a .pre .1)) s (rw (← c .before .before .before .before .before .before .before .before .before .before .before .before .before .before .before .before .kept .ensures) (c .before .before .before .before .before .before .before .before .before .before .clear-past .ensures))
+
+pub fill-spec : {M : Type 1} → statement M
+fill-spec =
+    tie.close
+    (tie.spec
+    read-lines-requires
+    kept-requires
+    clear-past-requires
+    same-length
+    same-length-2
+    same-length-3
+    same-length-4
+    same-length-5
+    returns)

@@ -1,0 +1,56 @@
+-- `job_text::first_line` meets its contract: a node count within its size is the job with no links, and no other line comes first.
+use native.Mathlib.Omega.{arith}
+use Rattle.job_text.proofs.Adding.{took-refusal}
+use Rattle.job_text.proofs.LineByLine.{no-nodes, nodes-over, nodes-begin}
+use borrow.Author.Needs.{needs}
+use Rattle.job_text.proofs.first_line.Statement.{statement}
+use Rattle.job_text.proofs.first_line.Tie as tie
+
+enum-known-said : tie.Need-enum-known-said
+enum-known-said c = search needs
+
+returns : tie.Need-returns
+returns c = λ bytes l. rw (c .before .before .said .given .1) (no-nodes _ (c .if1 .taken))
+
+wide-requires : tie.Need-wide-requires
+wide-requires c κs = search needs
+
+returns-2 : tie.Need-returns-2
+returns-2 c = λ bytes l. rw (c .before .before .before .before .said .given .1) (nodes-over _ (c .before .before .if1 .left) (omega arith))
+
+enum-told : tie.Need-enum-told
+enum-told c = search needs
+
+enum-told-2 : tie.Need-enum-told-2
+enum-told-2 c = search needs
+
+enum-told-3 : tie.Need-enum-told-3
+enum-told-3 c = search needs
+
+returns-3 : tie.Need-returns-3
+returns-3 c = λ bytes l. rw (c .before .before .before .before .said .given .1) (nodes-begin _ (c .before .before .if1 .left) (omega arith))
+
+returns-4 : tie.Need-returns-4
+returns-4 c = λ bytes l. took-refusal (rw (c .enum-told .given .1))
+
+returns-5 : tie.Need-returns-5
+returns-5 c = λ bytes l. took-refusal (rw (c .enum-told2 .given .1))
+
+returns-6 : tie.Need-returns-6
+returns-6 c = λ bytes l. took-refusal (rw (c .enum-told3 .given .1))
+
+pub first-line-spec : {M : Type 1} → statement M
+first-line-spec =
+    tie.close
+    (tie.spec
+    enum-known-said
+    returns
+    wide-requires
+    returns-2
+    enum-told
+    enum-told-2
+    enum-told-3
+    returns-3
+    returns-4
+    returns-5
+    returns-6)

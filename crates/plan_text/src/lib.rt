@@ -1,0 +1,171 @@
+// The text of a plan: a job as lists and starts for its packets, written into bytes that the caller lends.
+ghost use mathlib.Core.Path.{_≡_};
+ghost use mathlib.Core.List.{List};
+ghost use Prim.Native.Nat.{ℕ, _+_, _*_, _≤_, _<_, max};
+ghost use lib.ListN.{length, getD};
+ghost use Rattle.counting.specs.Count.{maxOf};
+ghost use Rattle.counting.proofs.Hits.{occurs};
+ghost use Rattle.rules.specs.Sizes.{linksMost, packetsMost};
+ghost use Rattle.rules.specs.Network.{Job as RuledJob};
+ghost use Rattle.rules.specs.Counts.{routingTime};
+ghost use Rattle.rules.specs.PlanText.{packetLines, planText};
+ghost use Rattle.rules.specs.Answers.{written};
+ghost use Rattle.job.specs.Lists.{jobOf};
+ghost use Rattle.lines.specs.Put.{Put, longestLine};
+ghost use Rattle.plan_text.specs.Listed.{Rising, hopCount, StopsOf, Linked, mostOften, Listed, ListsOf};
+ghost use Rattle.plan_text.specs.Told.{WrittenAs};
+use job::Hop;
+use job::Job;
+use job::Refusal;
+use job::Step;
+use job::Verdict;
+use job::wide;
+use lines::writing;
+
+fn greater(a: u32, b: u32) -> u32
+    ensures { λ r. ⌜ r ≡ max a b ⌝ }
+{
+    if a < b { b } else { a }
+}
+
+// How many hops packet k has: those from the stop before its own.
+fn hop_count(stops: &[u16], k: usize) -> Hop
+    requires { ⌜ Rising (now stops) × (k < length (now stops)) ⌝ }
+    ensures { λ r. ⌜ r .0 ≡ hopCount (now (stops .entry)) k ⌝ }
+{
+    if k == 0 {
+        Hop(stops[0])
+    } else {
+        Hop(stops[k] - stops[k - 1])
+    }
+}
+
+// The end of packet k: the step after its last hop.
+fn end(stops: &[u16], starts: &[u16], k: usize) -> Step
+    requires { ⌜ Rising (now stops) × (k < length (now stops)) × (k < length (now starts)) ⌝ }
+    ensures { λ r. ⌜ r .0 ≡ getD (now (starts .entry)) k 0 + hopCount (now (stops .entry)) k ⌝ }
+{
+    Step::of(starts[k], hop_count(stops, k))
+}
+
+// The routing time: the greatest end.
+fn routing_time(stops: &[u16], starts: &[u16]) -> u32
+    requires { ⌜ Rising (now stops) × (length (now starts) ≡ length (now stops)) ⌝ }
+    ensures { λ r. ⌜ ((paths : List (List ℕ)) → StopsOf paths (now (stops .entry)) → r ≡ routingTime (now (starts .entry)) paths) ⌝ }
+{
+    let mut time = 0;
+    let mut k = 0;
+    while k < stops.len() {
+        time = greater(time, end(stops, starts, k).0);
+        k += 1;
+    }
+    time
+}
+
+// D: the hops of the longest path.
+fn dilation(stops: &[u16]) -> u32
+    requires { ⌜ Rising (now stops) ⌝ }
+    ensures { λ r. ⌜ ((paths : List (List ℕ)) → StopsOf paths (now (stops .entry)) → r ≡ maxOf (λ p. length p) paths) ⌝ }
+{
+    let mut most = 0;
+    let mut k = 0;
+    while k < stops.len() {
+        most = greater(most, hop_count(stops, k).0 as u32);
+        k += 1;
+    }
+    most
+}
+
+// How often each link is among the hops.
+fn tally(hops: &[u16]) -> [u16; Job::LINKS]
+    requires { ⌜ Linked (now hops) ⌝ }
+    ensures { λ r. ⌜ ((link : ℕ) → link < linksMost → getD r link 0 ≡ occurs link (now (hops .entry))) ⌝ }
+{
+    let mut times = [0; Job::LINKS];
+    let mut i = 0;
+    while i < hops.len() {
+        let link = wide(hops[i]);
+        times[link] += 1;
+        i += 1;
+    }
+    times
+}
+
+// C: no path has a link twice, so it is how often the link met most often is among the hops.
+fn congestion(links: usize, hops: &[u16]) -> u32
+    requires { ⌜ Linked (now hops) × (links ≤ linksMost) ⌝ }
+    ensures { λ r. ⌜ r ≡ mostOften links (now (hops .entry)) ⌝ }
+{
+    let times = tally(hops);
+    let mut most = 0;
+    let mut link = 0;
+    while link < links {
+        most = greater(most, times[link] as u32);
+        link += 1;
+    }
+    most
+}
+
+// Writes a line for each packet.
+fn packet_lines(room: &mut [u8], stops: &[u16], starts: &[u16]) -> usize
+    requires { ⌜ Rising (now stops) × (length (now starts) ≡ length (now stops)) × (length (now stops) ≤ packetsMost) ⌝ }
+    ensures { λ r. ⌜ ((paths : List (List ℕ)) → StopsOf paths (now (stops .entry)) → Put (now (room .entry)) 0 (packetLines 0 (now (starts .entry)) paths) (now (room .exit)) r) ⌝ }
+    ensures near { λ r. ⌜ r ≤ longestLine 3 * packetsMost ⌝ }
+{
+    let mut at = 0;
+    let mut k = 0;
+    while k < stops.len() {
+        let end = end(stops, starts, k);
+        at = writing::line_of_three(room, at as u32, b'S', k as u32, starts[k] as u32, end.0);
+        k += 1;
+    }
+    at
+}
+
+// Writes the plan's text, as far as the room goes, and gives its length.
+fn text(room: &mut [u8], links: usize, stops: &[u16], hops: &[u16], starts: &[u16]) -> usize
+    requires { ⌜ Listed links (now stops) (now hops) (now starts) ⌝ }
+    ensures { λ r. ⌜ ((j : RuledJob) → ListsOf j links (now (stops .entry)) (now (hops .entry)) → Put (now (room .entry)) 0 (planText j (now (starts .entry))) (now (room .exit)) r) ⌝ }
+    ensures near { λ r. ⌜ r ≤ longestLine 3 * packetsMost + longestLine 3 ⌝ }
+{
+    let at = packet_lines(room, stops, starts);
+    let time = routing_time(stops, starts);
+    let c = congestion(links, hops);
+    let d = dilation(stops);
+    writing::line_of_three(room, at as u32, b'T', time, c, d)
+}
+
+// The number of bytes written, or the refusal.
+pub enum Written {
+    Bytes(u32),
+    Refused(Refusal),
+}
+
+// Writes the plan of a job as lists with starts for its packets. The text goes first into a room of one byte, for its length.
+pub fn write(
+    nodes: u16,
+    origins: &[u16],
+    ends: &[u16],
+    sources: &[u16],
+    stops: &[u16],
+    hops: &[u16],
+    starts: &[u16],
+    room: &mut [u8],
+) -> Written
+    ensures { λ r. ⌜ WrittenAs (written (jobOf nodes (now (origins .entry)) (now (ends .entry)) (now (sources .entry)) (now (stops .entry)) (now (hops .entry))) (now (starts .entry)) (length (now (room .entry)))) r (now (room .entry)) (now (room .exit)) ⌝ }
+{
+    let verdict = job::started(nodes, origins, ends, sources, stops, hops, starts);
+    match verdict {
+        Verdict::Refused(refusal) => {
+            return Written::Refused(refusal);
+        }
+        Verdict::Fine => {}
+    }
+    let mut trial = [0; 1];
+    let bytes = text(&mut trial, origins.len(), stops, hops, starts);
+    if bytes > room.len() {
+        return Written::Refused(Refusal::ShortRoom);
+    }
+    text(room, origins.len(), stops, hops, starts);
+    Written::Bytes(bytes as u32)
+}
