@@ -1,6 +1,6 @@
 -- Laws of the rules' verdicts as the code meets them. Of each loop, what the rest of its lists is at a turn and after the
 -- last; of each chain of tests, a law for every way out.
-use mathlib.Core.Path.{_≡_, refl, sym, _∙_}
+use mathlib.Core.Path.{_≡_, refl, sym, ap, _∙_}
 use mathlib.Core.Bool.{Bool, true, false, not, _&&_, _||_}
 use mathlib.Core.List.{List, [], _∷_, _++_, map-append}
 use Prim.Native.Nat.{ℕ, zero, suc, _+_, _-_, _≤_, _<_}
@@ -30,6 +30,10 @@ use Rattle.job.specs.Told.{refusalOf, verdictOf}
 -- a check that refuses is the whole answer; after one that does not, what follows is
 pub after-refusal : {A : Type 0} {w : Told} {r : Refusal} {v : Verdict} → w ≡ Refused r → verdictOf w ≡ v → (o : Outcome A) → (v then o) ≡ refusalOf r
 after-refusal d e o = rw (← e, d)
+
+-- a verdict that refuses is handed on as it is
+pub refusal-stays : {w : Told} {r : Refusal} {v : Verdict} → w ≡ Refused r → verdictOf w ≡ v → (o : Verdict) → verdictOf w ≡ (v then o)
+refusal-stays d e o = ap verdictOf d ∙ sym (after-refusal d e o)
 
 pub after-fine : {A : Type 0} {w : Told} {v : Verdict} → w ≡ Fine → verdictOf w ≡ v → (o : Outcome A) → (v then o) ≡ o
 after-fine d e o = rw (← e, d)
@@ -153,8 +157,8 @@ module _ (net : Network) (sources stops hops : List ℕ) where
     unfolding packetsVerdict pathsFrom
     packets-turn = rw (from-place sources k, from-place stops k, ← e, add-one k, part-slice)
 
-    pub packets-refused : {w : Told} {r : Refusal} → w ≡ Refused r → verdictOf w ≡ packet-here → packets-left from k ≡ refusalOf r
-    packets-refused d v = packets-turn ∙ after-refusal d v _
+    pub packets-refused : {w : Told} {r : Refusal} → w ≡ Refused r → verdictOf w ≡ packet-here → verdictOf w ≡ packets-left from k
+    packets-refused d v = refusal-stays d v _ ∙ sym packets-turn
 
     pub packets-on : {w : Told} → w ≡ Fine → verdictOf w ≡ packet-here → packets-left from k ≡ packets-left to (k + 1)
     packets-on d v = packets-turn ∙ after-fine d v _
@@ -176,8 +180,8 @@ module _ (nodes : ℕ) (origins ends : List ℕ) where
     unfolding linksVerdict
     links-turn = rw (from-place origins l, from-place ends l, add-one l)
 
-    pub links-refused : {w : Told} {r : Refusal} → w ≡ Refused r → verdictOf w ≡ link-here → links-left l ≡ refusalOf r
-    links-refused d v = links-turn ∙ after-refusal d v _
+    pub links-refused : {w : Told} {r : Refusal} → w ≡ Refused r → verdictOf w ≡ link-here → verdictOf w ≡ links-left l
+    links-refused d v = refusal-stays d v _ ∙ sym links-turn
 
     pub links-on : {w : Told} → w ≡ Fine → verdictOf w ≡ link-here → links-left l ≡ links-left (l + 1)
     links-on d v = links-turn ∙ after-fine d v _

@@ -5,11 +5,12 @@ ghost use mathlib.Core.List.{[], _∷_};
 ghost use Prim.Native.Nat.{ℕ, _+_, _≤_, _<_};
 ghost use lib.ListN.{length, getD, take};
 ghost use Rattle.counting.specs.Count.{among};
+ghost use Rattle.rules.specs.Handed.{given};
 ghost use Rattle.rules.specs.Sizes.{nodesMost, linksMost, packetsMost, pathMost, hopsMost, textMost, startMost};
 ghost use Rattle.rules.specs.Network.{paths};
 ghost use Rattle.rules.specs.Tables.{linkVerdict, walk as walkVerdict, packetVerdict, linksVerdict, packetsVerdict, stopsAgree, tables as tablesVerdict};
 ghost use Rattle.rules.specs.Answers.{startsVerdict, startedVerdict};
-ghost use Rattle.job.specs.Lists.{networkOf, jobOf, entered, sizesFit};
+ghost use Rattle.job.specs.Lists.{networkOf, networkIn, jobIn, entered, sizesFit};
 ghost use Rattle.job.specs.Told.{numberPlace, verdictOf};
 
 // The counts of a job whose lists stand beside it.
@@ -186,7 +187,7 @@ pub fn link_verdict(nodes: u16, from: u16, to: u16, place: u32) -> Verdict
 // Whether the node is the source, or one that the first links of the path enter.
 fn visited(ends: &[u16], path: &[u16], count: usize, source: u16, node: u16) -> bool
     requires { ⌜ (count ≤ length (now path)) × ((q : ℕ) → q < count → getD (now path) q 0 < length (now ends)) ⌝ }
-    ensures { λ r. ⌜ r ≡ among node (source ∷ entered (now (ends .entry)) (take count (now (path .entry)))) ⌝ }
+    ensures { λ r. ⌜ r ≡ among node (source ∷ entered (given ends) (take count (given path))) ⌝ }
 {
     if source == node {
         return true;
@@ -204,7 +205,7 @@ fn visited(ends: &[u16], path: &[u16], count: usize, source: u16, node: u16) -> 
 
 // The path hop by hop, from its source.
 fn walk(origins: &[u16], ends: &[u16], path: &[u16], source: u16, place: u32) -> Verdict
-    ensures { λ r. ⌜ ((n : ℕ) → verdictOf r ≡ walkVerdict (networkOf n (now (origins .entry)) (now (ends .entry))) place source (source ∷ []) (now (path .entry))) ⌝ }
+    ensures { λ r. ⌜ ((n : ℕ) → verdictOf r ≡ walkVerdict (networkOf n (given origins) (given ends)) place source (source ∷ []) (given path)) ⌝ }
 {
     let mut reached = source;
     let mut p = 0;
@@ -238,7 +239,7 @@ pub fn packet_verdict(
     source: u16,
     place: u32,
 ) -> Verdict
-    ensures { λ r. ⌜ verdictOf r ≡ packetVerdict (networkOf nodes (now (origins .entry)) (now (ends .entry))) place source (now (path .entry)) ⌝ }
+    ensures { λ r. ⌜ verdictOf r ≡ packetVerdict (networkIn nodes origins ends) place source (given path) ⌝ }
 {
     if path.len() > Job::PATH {
         return Verdict::Refused(Refusal::Size(place));
@@ -251,7 +252,7 @@ pub fn packet_verdict(
 
 // Whether the stops never fall, and the last is the number of hops.
 fn stops_agree(stops: &[u16], hops: usize) -> bool
-    ensures { λ r. ⌜ r ≡ stopsAgree 0 (now (stops .entry)) hops ⌝ }
+    ensures { λ r. ⌜ r ≡ stopsAgree 0 (given stops) hops ⌝ }
 {
     let mut last = 0;
     let mut k = 0;
@@ -279,17 +280,14 @@ fn sizes_fit(nodes: u16, links: usize, packets: usize, hops: usize) -> bool
 // The links in order.
 fn links_verdict(nodes: u16, origins: &[u16], ends: &[u16]) -> Verdict
     requires { ⌜ (length (now ends) ≡ length (now origins)) × (length (now origins) ≤ linksMost) ⌝ }
-    ensures { λ r. ⌜ verdictOf r ≡ linksVerdict nodes 0 (now (origins .entry)) (now (ends .entry)) ⌝ }
+    ensures { λ r. ⌜ verdictOf r ≡ linksVerdict nodes 0 (given origins) (given ends) ⌝ }
 {
     let mut l = 0;
     while l < origins.len() {
         let verdict = link_verdict(nodes, origins[l], ends[l], l as u32);
-        match verdict {
-            Verdict::Refused(refusal) => {
-                return Verdict::Refused(refusal);
-            }
-            Verdict::Fine => {}
-        }
+        let Verdict::Fine = verdict else {
+            return verdict;
+        };
         l += 1;
     }
     Verdict::Fine
@@ -304,20 +302,19 @@ fn packets_verdict(
     stops: &[u16],
     hops: &[u16],
 ) -> Verdict
-    requires { ⌜ (length (now stops) ≡ length (now sources)) × (length (now sources) ≤ packetsMost) × (stopsAgree 0 (now stops) (length (now hops)) ≡ true) ⌝ }
-    ensures { λ r. ⌜ verdictOf r ≡ packetsVerdict (networkOf nodes (now (origins .entry)) (now (ends .entry))) 0 (now (sources .entry)) (paths (jobOf nodes (now (origins .entry)) (now (ends .entry)) (now (sources .entry)) (now (stops .entry)) (now (hops .entry)))) ⌝ }
+    requires { ⌜ (length (now stops) ≡ length (now sources)) × (length (now sources) ≤ packetsMost)
+        × (stopsAgree 0 (now stops) (length (now hops)) ≡ true) ⌝ }
+    ensures { λ r. ⌜ verdictOf r ≡ packetsVerdict (networkIn nodes origins ends) 0 (given sources)
+        (paths (jobIn nodes origins ends sources stops hops)) ⌝ }
 {
     let mut from = 0;
     let mut k = 0;
     while k < sources.len() {
         let to = wide(stops[k]);
         let verdict = packet_verdict(nodes, origins, ends, &hops[from..to], sources[k], k as u32);
-        match verdict {
-            Verdict::Refused(refusal) => {
-                return Verdict::Refused(refusal);
-            }
-            Verdict::Fine => {}
-        }
+        let Verdict::Fine = verdict else {
+            return verdict;
+        };
         from = to;
         k += 1;
     }
@@ -333,7 +330,7 @@ pub fn tables(
     stops: &[u16],
     hops: &[u16],
 ) -> Verdict
-    ensures { λ r. ⌜ verdictOf r ≡ tablesVerdict (jobOf nodes (now (origins .entry)) (now (ends .entry)) (now (sources .entry)) (now (stops .entry)) (now (hops .entry))) ⌝ }
+    ensures { λ r. ⌜ verdictOf r ≡ tablesVerdict (jobIn nodes origins ends sources stops hops) ⌝ }
 {
     if origins.len() != ends.len() {
         return Verdict::Refused(Refusal::Disagree);
@@ -348,19 +345,16 @@ pub fn tables(
         return Verdict::Refused(Refusal::Size(0));
     }
     let links = links_verdict(nodes, origins, ends);
-    match links {
-        Verdict::Refused(refusal) => {
-            return Verdict::Refused(refusal);
-        }
-        Verdict::Fine => {}
-    }
+    let Verdict::Fine = links else {
+        return links;
+    };
     packets_verdict(nodes, origins, ends, sources, stops, hops)
 }
 
 // The lowest packet whose start is too late.
 fn starts_verdict(starts: &[u16]) -> Verdict
     requires { ⌜ length (now starts) ≤ packetsMost ⌝ }
-    ensures { λ r. ⌜ verdictOf r ≡ startsVerdict 0 (now (starts .entry)) ⌝ }
+    ensures { λ r. ⌜ verdictOf r ≡ startsVerdict 0 (given starts) ⌝ }
 {
     let mut packet = 0;
     while packet < starts.len() {
@@ -382,15 +376,12 @@ pub fn started(
     hops: &[u16],
     starts: &[u16],
 ) -> Verdict
-    ensures { λ r. ⌜ verdictOf r ≡ startedVerdict (jobOf nodes (now (origins .entry)) (now (ends .entry)) (now (sources .entry)) (now (stops .entry)) (now (hops .entry))) (now (starts .entry)) ⌝ }
+    ensures { λ r. ⌜ verdictOf r ≡ startedVerdict (jobIn nodes origins ends sources stops hops) (given starts) ⌝ }
 {
     let verdict = tables(nodes, origins, ends, sources, stops, hops);
-    match verdict {
-        Verdict::Refused(refusal) => {
-            return Verdict::Refused(refusal);
-        }
-        Verdict::Fine => {}
-    }
+    let Verdict::Fine = verdict else {
+        return verdict;
+    };
     if starts.len() != sources.len() {
         return Verdict::Refused(Refusal::StartCount);
     }

@@ -3,6 +3,7 @@ ghost use mathlib.Core.Path.{_≡_};
 ghost use Prim.Native.Nat.{_+_};
 ghost use lib.ListN.{drop};
 ghost use lib.Seq.{sets};
+ghost use Rattle.rules.specs.Handed.{given, left};
 ghost use Rattle.rules.specs.Bytes.{tab, numberOf, numbersOf, split};
 ghost use Rattle.lines.specs.Pieces.{before};
 ghost use Rattle.lines.specs.Cursor.{lineAfter, topLine, nextLine};
@@ -22,7 +23,7 @@ const LINE_MOST: u32 = 4294967295;
 
 // Where the first such byte stands, from a place on; the end, or the place itself past it, where there is none.
 pub fn find(bytes: &[u8], byte: u8, from: usize) -> usize
-    ensures { λ r. ⌜ r ≡ from + before byte (drop from (now (bytes .entry))) ⌝ }
+    ensures { λ r. ⌜ r ≡ from + before byte (drop from (given bytes)) ⌝ }
 {
     let mut i = from;
     while i < bytes.len() {
@@ -42,7 +43,7 @@ pub enum Number {
 
 // Digits, at least one, and no zero in front but where it is the whole field.
 pub fn number_of(field: &[u8]) -> Number
-    ensures { λ r. ⌜ numberTold r ≡ numberOf (now (field .entry)) ⌝ }
+    ensures { λ r. ⌜ numberTold r ≡ numberOf (given field) ⌝ }
 {
     if field.len() == 0 {
         return Number::NoNumber;
@@ -102,7 +103,7 @@ impl Lines {
     }
 
     pub fn next(self, text: &[u8]) -> NextLine
-        ensures { λ r. ⌜ r ≡ nextLine (now (text .entry)) self ⌝ }
+        ensures { λ r. ⌜ r ≡ nextLine (given text) self ⌝ }
     {
         let at = self.at;
         let end = find(text, LINE_FEED, at);
@@ -125,7 +126,7 @@ impl Lines {
 
 // The letter of a line: its first field, if that is one byte, else 0.
 pub fn letter_of(line: &[u8]) -> u8
-    ensures { λ r. ⌜ r ≡ letterOf (split tab (now (line .entry))) ⌝ }
+    ensures { λ r. ⌜ r ≡ letterOf (split tab (given line)) ⌝ }
 {
     if find(line, TAB, 0) == 1 { line[0] } else { 0 }
 }
@@ -138,7 +139,7 @@ pub enum Field {
 }
 
 pub fn next_field(line: &[u8], at: usize) -> Field
-    ensures { λ r. ⌜ r ≡ nextField (now (line .entry)) at ⌝ }
+    ensures { λ r. ⌜ r ≡ nextField (given line) at ⌝ }
 {
     if at >= line.len() {
         return Field::NoField;
@@ -159,7 +160,7 @@ pub enum Counted {
 }
 
 pub fn count_numbers(line: &[u8], at: usize) -> Counted
-    ensures { λ r. ⌜ countedTold r ≡ howMany (numbersOf (fieldsFrom (now (line .entry)) at)) ⌝ }
+    ensures { λ r. ⌜ countedTold r ≡ howMany (numbersOf (fieldsFrom (given line) at)) ⌝ }
 {
     let mut place = at;
     let mut count: usize = 0;
@@ -182,7 +183,7 @@ pub fn count_numbers(line: &[u8], at: usize) -> Counted
 
 // Copies the numbers that follow, up to a field that says none, into a list from a place on, as far as the list goes.
 pub fn copy_numbers(line: &[u8], at: usize, list: &mut [u16], from: usize)
-    ensures { λ _. ⌜ now (list .exit) ≡ sets (now (list .entry)) from (leading (fieldsFrom (now (line .entry)) at)) ⌝ }
+    ensures { λ _. ⌜ left list ≡ sets (given list) from (leading (fieldsFrom (given line) at)) ⌝ }
 {
     let mut place = at;
     let mut i = from;

@@ -2,13 +2,14 @@
 // any list, and what it writes into a list that is too short still tells how long it is.
 ghost use mathlib.Core.List.{[], _∷_};
 ghost use Prim.Native.Nat.{_+_, _^_, _≤_, _<_};
+ghost use Rattle.rules.specs.Handed.{given, left};
 ghost use Rattle.rules.specs.Bytes.{tab, decimal, lineText};
 ghost use Rattle.lines.specs.Put.{Put, longestLine};
 
 // Writes a byte, and gives the place after it.
 fn byte(room: &mut [u8], at: usize, b: u8) -> usize
     requires { ⌜ at + 1 < 2 ^ 64 ⌝ }
-    ensures { λ r. ⌜ Put (now (room .entry)) at (b ∷ []) (now (room .exit)) r ⌝ }
+    ensures { λ r. ⌜ Put (given room) at (b ∷ []) (left room) r ⌝ }
 {
     if at < room.len() {
         room[at] = b;
@@ -19,7 +20,7 @@ fn byte(room: &mut [u8], at: usize, b: u8) -> usize
 // Writes a number: the digits of its quotient by ten, then that of the remainder.
 fn number(room: &mut [u8], at: usize, n: u32) -> usize
     requires { ⌜ at + 10 < 2 ^ 64 ⌝ }
-    ensures { λ r. ⌜ Put (now (room .entry)) at (decimal n) (now (room .exit)) r ⌝ }
+    ensures { λ r. ⌜ Put (given room) at (decimal n) (left room) r ⌝ }
     ensures near { λ r. ⌜ r ≤ at + 10 ⌝ }
 {
     if n < 10 {
@@ -33,7 +34,7 @@ fn number(room: &mut [u8], at: usize, n: u32) -> usize
 // Writes a tab and a number.
 fn field(room: &mut [u8], at: usize, n: u32) -> usize
     requires { ⌜ at + 11 < 2 ^ 64 ⌝ }
-    ensures { λ r. ⌜ Put (now (room .entry)) at (tab ∷ decimal n) (now (room .exit)) r ⌝ }
+    ensures { λ r. ⌜ Put (given room) at (tab ∷ decimal n) (left room) r ⌝ }
     ensures near { λ r. ⌜ r ≤ at + 11 ⌝ }
 {
     let digits = byte(room, at, b'\t');
@@ -42,7 +43,7 @@ fn field(room: &mut [u8], at: usize, n: u32) -> usize
 
 // Writes a line of a letter and two numbers.
 pub fn line_of_two(room: &mut [u8], at: u32, letter: u8, a: u32, b: u32) -> usize
-    ensures { λ r. ⌜ Put (now (room .entry)) at (lineText letter (a ∷ b ∷ [])) (now (room .exit)) r ⌝ }
+    ensures { λ r. ⌜ Put (given room) at (lineText letter (a ∷ b ∷ [])) (left room) r ⌝ }
     ensures near { λ r. ⌜ r ≤ at + longestLine 2 ⌝ }
 {
     let first = byte(room, at as usize, letter);
@@ -53,7 +54,7 @@ pub fn line_of_two(room: &mut [u8], at: u32, letter: u8, a: u32, b: u32) -> usiz
 
 // Writes a line of a letter and three numbers.
 pub fn line_of_three(room: &mut [u8], at: u32, letter: u8, a: u32, b: u32, c: u32) -> usize
-    ensures { λ r. ⌜ Put (now (room .entry)) at (lineText letter (a ∷ b ∷ c ∷ [])) (now (room .exit)) r ⌝ }
+    ensures { λ r. ⌜ Put (given room) at (lineText letter (a ∷ b ∷ c ∷ [])) (left room) r ⌝ }
     ensures near { λ r. ⌜ r ≤ at + longestLine 3 ⌝ }
 {
     let first = byte(room, at as usize, letter);

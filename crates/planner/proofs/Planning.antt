@@ -49,9 +49,9 @@ module _ (j : Job) (told : Verdict) (same : verdictOf told ≡ tables j) where
   unfolding planned
   planned-starts e room l = after-fine e same _ ∙ rw (le-leb _ _ l)
 
-  pub plan-refused : (r : Refusal) → told ≡ Refused r → (lent : List ℕ) → PlannedAs (planned j (length lent)) (Refused r) lent lent
+  pub plan-refused : (r : Refusal) → told ≡ Refused r → (lent : List ℕ) → PlannedAs (planned j (length lent)) told lent lent
   unfolding lentAfter
-  plan-refused r e lent = let a = planned-refused r e (length lent) in record { verdict = rw a; list = rw a }
+  plan-refused r e lent = let a = planned-refused r e (length lent) in record { verdict = rw (a, e); list = rw a }
 
   pub plan-short : told ≡ Fine → (lent : List ℕ) → length lent < length (j .sources) → PlannedAs (planned j (length lent)) (Refused ShortRoom) lent lent
   unfolding lentAfter

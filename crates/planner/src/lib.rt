@@ -5,6 +5,7 @@ ghost use mathlib.Core.List.{[], _++_};
 ghost use mathlib.Core.Option.{some};
 ghost use Prim.Native.Nat.{_≤_, _<_};
 ghost use lib.ListN.{length, drop};
+ghost use Rattle.rules.specs.Handed.{given, left};
 ghost use Rattle.rules.specs.Sizes.{packetsMost};
 ghost use Rattle.rules.specs.Network.{pathsFrom};
 ghost use Rattle.rules.specs.Outcome.{is};
@@ -13,7 +14,7 @@ ghost use Rattle.rules.specs.Check.{holder as holderOf, clashAfter};
 ghost use Rattle.rules.specs.Lead.{entryAt, leadOf};
 ghost use Rattle.rules.specs.Answers.{planned, checked, led};
 ghost use Rattle.theorems.proofs.OnPaths.{onPaths};
-ghost use Rattle.job.specs.Lists.{jobOf};
+ghost use Rattle.job.specs.Lists.{jobIn};
 ghost use Rattle.planner.specs.Told.{enteredOf, checkedOf, clearOr, ledOf, PlannedAs, Near};
 ghost use Rattle.planner.specs.Listed.{Listed, beginFrom, pathAt, packetEnters, before, startAfter, greedyStarts, clashAt};
 use job::Hop;
@@ -25,7 +26,7 @@ use job::wide;
 // Where packet k's path begins in the hops.
 fn begin(stops: &[u16], k: usize) -> usize
     requires { ⌜ k ≤ length (now stops) ⌝ }
-    ensures { λ r. ⌜ r ≡ beginFrom 0 (now (stops .entry)) k ⌝ }
+    ensures { λ r. ⌜ r ≡ beginFrom 0 (given stops) k ⌝ }
 {
     if k == 0 { 0 } else { wide(stops[k - 1]) }
 }
@@ -33,7 +34,7 @@ fn begin(stops: &[u16], k: usize) -> usize
 // The links of packet k's path.
 fn path<'a>(stops: &[u16], hops: &'a [u16], k: usize) -> &'a [u16]
     requires { ⌜ Listed (now stops) (now hops) × (k < length (now stops)) ⌝ }
-    ensures { λ r. ⌜ now r ≡ pathAt (now (stops .entry)) (now (hops .entry)) k ⌝ }
+    ensures { λ r. ⌜ now r ≡ pathAt (given stops) (given hops) k ⌝ }
 {
     let from = begin(stops, k);
     let to = wide(stops[k]);
@@ -42,7 +43,7 @@ fn path<'a>(stops: &[u16], hops: &'a [u16], k: usize) -> &'a [u16]
 
 // Whether a packet with this path and start enters the link in the step.
 pub fn enters(path: &[u16], start: u16, link: u16, step: Step) -> bool
-    ensures { λ r. ⌜ r ≡ takes (place start (linkClaims 0 (now (path .entry)))) link (step .0) ⌝ }
+    ensures { λ r. ⌜ r ≡ takes (place start (linkClaims 0 (given path))) link (step .0) ⌝ }
 {
     let at = step.0;
     if at < start as u32 {
@@ -62,7 +63,7 @@ fn packet_enters(
     step: Step,
 ) -> bool
     requires { ⌜ Listed (now stops) (now hops) × (j < length (now stops)) × (j < length (now starts)) ⌝ }
-    ensures { λ r. ⌜ r ≡ packetEnters (now (stops .entry)) (now (hops .entry)) (now (starts .entry)) j link (step .0) ⌝ }
+    ensures { λ r. ⌜ r ≡ packetEnters (given stops) (given hops) (given starts) j link (step .0) ⌝ }
 {
     enters(path(stops, hops, j), starts[j], link, step)
 }
@@ -70,7 +71,7 @@ fn packet_enters(
 // Whether a packet listed before packet k enters the link in the step.
 fn taken(stops: &[u16], hops: &[u16], starts: &[u16], k: usize, link: u16, step: Step) -> bool
     requires { ⌜ Listed (now stops) (now hops) × (k ≤ length (now stops)) × (k ≤ length (now starts)) ⌝ }
-    ensures { λ r. ⌜ r ≡ takenBy (before (now (stops .entry)) (now (hops .entry)) (now (starts .entry)) k) link (step .0) ⌝ }
+    ensures { λ r. ⌜ r ≡ takenBy (before (given stops) (given hops) (given starts) k) link (step .0) ⌝ }
 {
     let mut j = 0;
     while j < k {
@@ -85,7 +86,7 @@ fn taken(stops: &[u16], hops: &[u16], starts: &[u16], k: usize, link: u16, step:
 // The first step at which packet k, the one after those with starts, conflicts with none of them.
 fn search(stops: &[u16], hops: &[u16], starts: &[u16]) -> u16
     requires { ⌜ Listed (now stops) (now hops) × (length (now starts) < length (now stops)) ⌝ }
-    ensures { λ r. ⌜ r ≡ startAfter (now (stops .entry)) (now (hops .entry)) (now (starts .entry)) ⌝ }
+    ensures { λ r. ⌜ r ≡ startAfter (given stops) (given hops) (given starts) ⌝ }
 {
     let k = starts.len();
     let path_k = path(stops, hops, k);
@@ -114,7 +115,7 @@ fn search(stops: &[u16], hops: &[u16], starts: &[u16]) -> u16
 // Writes the greedy starts, packet by packet, over the first places.
 fn fill(stops: &[u16], hops: &[u16], starts: &mut [u16])
     requires { ⌜ Listed (now stops) (now hops) × (length (now stops) ≤ length (now starts)) ⌝ }
-    ensures { λ _. ⌜ now (starts .exit) ≡ greedyStarts (now (stops .entry)) (now (hops .entry)) ++ drop (length (now (stops .entry))) (now (starts .entry)) ⌝ }
+    ensures { λ _. ⌜ left starts ≡ greedyStarts (given stops) (given hops) ++ drop (length (given stops)) (given starts) ⌝ }
 {
     let mut k = 0;
     while k < stops.len() {
@@ -132,7 +133,7 @@ enum Entered {
 
 fn entry(stops: &[u16], hops: &[u16], starts: &[u16], k: u16, link: u16) -> Entered
     requires { ⌜ Listed (now stops) (now hops) × (length (now starts) ≡ length (now stops)) ⌝ }
-    ensures { λ r. ⌜ enteredOf r ≡ entryAt (now (starts .entry)) (pathsFrom 0 (now (stops .entry)) (now (hops .entry))) link k ⌝ }
+    ensures { λ r. ⌜ enteredOf r ≡ entryAt (given starts) (pathsFrom 0 (given stops) (given hops)) link k ⌝ }
     ensures near { λ r. ⌜ Near r ⌝ }
 {
     let packet = wide(k);
@@ -177,8 +178,9 @@ pub enum Checked {
 
 // The lowest packet listed before packet k that enters the link in the step, where one does.
 fn holder(stops: &[u16], hops: &[u16], starts: &[u16], k: usize, link: u16, step: Step) -> u16
-    requires { ⌜ Listed (now stops) (now hops) × (k ≤ length (now stops)) × (k ≤ length (now starts)) × (k ≤ packetsMost) × (takenBy (before (now stops) (now hops) (now starts) k) link (step .0) ≡ true) ⌝ }
-    ensures { λ r. ⌜ holderOf 0 (before (now (stops .entry)) (now (hops .entry)) (now (starts .entry)) k) link (step .0) ≡ some r ⌝ }
+    requires { ⌜ Listed (now stops) (now hops) × (k ≤ length (now stops)) × (k ≤ length (now starts)) × (k ≤ packetsMost)
+        × (takenBy (before (now stops) (now hops) (now starts) k) link (step .0) ≡ true) ⌝ }
+    ensures { λ r. ⌜ holderOf 0 (before (given stops) (given hops) (given starts) k) link (step .0) ≡ some r ⌝ }
 {
     let mut j = 0;
     while j < k {
@@ -192,8 +194,9 @@ fn holder(stops: &[u16], hops: &[u16], starts: &[u16], k: usize, link: u16, step
 
 // The first conflicting hop of packet k.
 fn clash_of(stops: &[u16], hops: &[u16], starts: &[u16], k: usize) -> Checked
-    requires { ⌜ Listed (now stops) (now hops) × (k < length (now stops)) × (length (now starts) ≡ length (now stops)) × (length (now stops) ≤ packetsMost) ⌝ }
-    ensures { λ r. ⌜ r ≡ clearOr (clashAt (now (stops .entry)) (now (hops .entry)) (now (starts .entry)) k) ⌝ }
+    requires { ⌜ Listed (now stops) (now hops) × (k < length (now stops)) × (length (now starts) ≡ length (now stops))
+        × (length (now stops) ≤ packetsMost) ⌝ }
+    ensures { λ r. ⌜ r ≡ clearOr (clashAt (given stops) (given hops) (given starts) k) ⌝ }
 {
     let links = path(stops, hops, k);
     let mut hop = 0;
@@ -217,7 +220,7 @@ fn clash_of(stops: &[u16], hops: &[u16], starts: &[u16], k: usize) -> Checked
 // The clash of the lowest packet that conflicts with one listed before it.
 fn first_clash(stops: &[u16], hops: &[u16], starts: &[u16]) -> Checked
     requires { ⌜ Listed (now stops) (now hops) × (length (now starts) ≡ length (now stops)) × (length (now stops) ≤ packetsMost) ⌝ }
-    ensures { λ r. ⌜ checkedOf r ≡ is (clashAfter [] (onPaths (now (starts .entry)) (pathsFrom 0 (now (stops .entry)) (now (hops .entry))))) ⌝ }
+    ensures { λ r. ⌜ checkedOf r ≡ is (clashAfter [] (onPaths (given starts) (pathsFrom 0 (given stops) (given hops)))) ⌝ }
 {
     let mut later = 0;
     while later < stops.len() {
@@ -240,15 +243,12 @@ pub fn plan(
     hops: &[u16],
     starts: &mut [u16],
 ) -> Verdict
-    ensures { λ r. ⌜ PlannedAs (planned (jobOf nodes (now (origins .entry)) (now (ends .entry)) (now (sources .entry)) (now (stops .entry)) (now (hops .entry))) (length (now (starts .entry)))) r (now (starts .entry)) (now (starts .exit)) ⌝ }
+    ensures { λ r. ⌜ PlannedAs (planned (jobIn nodes origins ends sources stops hops) (length (given starts))) r (given starts) (left starts) ⌝ }
 {
     let verdict = job::tables(nodes, origins, ends, sources, stops, hops);
-    match verdict {
-        Verdict::Refused(refusal) => {
-            return Verdict::Refused(refusal);
-        }
-        Verdict::Fine => {}
-    }
+    let Verdict::Fine = verdict else {
+        return verdict;
+    };
     if starts.len() < sources.len() {
         return Verdict::Refused(Refusal::ShortRoom);
     }
@@ -266,14 +266,11 @@ pub fn check(
     hops: &[u16],
     starts: &[u16],
 ) -> Checked
-    ensures { λ r. ⌜ checkedOf r ≡ checked (jobOf nodes (now (origins .entry)) (now (ends .entry)) (now (sources .entry)) (now (stops .entry)) (now (hops .entry))) (now (starts .entry)) ⌝ }
+    ensures { λ r. ⌜ checkedOf r ≡ checked (jobIn nodes origins ends sources stops hops) (given starts) ⌝ }
 {
     let verdict = job::started(nodes, origins, ends, sources, stops, hops, starts);
-    match verdict {
-        Verdict::Refused(refusal) => {
-            return Checked::Refused(refusal);
-        }
-        Verdict::Fine => {}
+    if let Verdict::Refused(refusal) = verdict {
+        return Checked::Refused(refusal);
     }
     first_clash(stops, hops, starts)
 }
@@ -296,14 +293,11 @@ pub fn lead(
     b: u16,
     link: u16,
 ) -> Led
-    ensures { λ r. ⌜ ledOf r ≡ led (jobOf nodes (now (origins .entry)) (now (ends .entry)) (now (sources .entry)) (now (stops .entry)) (now (hops .entry))) (now (starts .entry)) a b link ⌝ }
+    ensures { λ r. ⌜ ledOf r ≡ led (jobIn nodes origins ends sources stops hops) (given starts) a b link ⌝ }
 {
     let verdict = job::started(nodes, origins, ends, sources, stops, hops, starts);
-    match verdict {
-        Verdict::Refused(refusal) => {
-            return Led::Refused(refusal);
-        }
-        Verdict::Fine => {}
+    if let Verdict::Refused(refusal) = verdict {
+        return Led::Refused(refusal);
     }
     if a == b {
         return Led::Refused(Refusal::NoLead);

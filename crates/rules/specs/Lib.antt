@@ -1,3 +1,4 @@
+pub mod Handed
 pub mod Sizes
 pub mod Network
 pub mod Path

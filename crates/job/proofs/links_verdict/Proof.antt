@@ -36,16 +36,16 @@ cast-link-verdict c = search needs
 link-verdict-requires : tie.Need-link-verdict-requires Inv-loop μ-loop
 link-verdict-requires c κs = search needs
 
-enum-known-verdict : tie.Need-enum-known-verdict Inv-loop μ-loop
-enum-known-verdict c = search needs
+enum-told : tie.Need-enum-told Inv-loop μ-loop
+enum-told c = search needs
+
+enum-told-2 : tie.Need-enum-told-2 Inv-loop μ-loop
+enum-told-2 c = search needs
 
 returns : tie.Need-returns Inv-loop μ-loop
 returns c =
-    let t = c .before .before .before .before .before .before in
-    sym (t .before .loop .inv .1 ∙ links-refused _ _ _ _ (t .loop-test .taken) (omega arith) (c .before .verdict .given .1) (c .before .before .before .link-verdict .ensures))
-
-enum-told : tie.Need-enum-told Inv-loop μ-loop
-enum-told c = search needs
+    let t = c .before .before .before .before .before in
+    links-refused _ _ _ _ (t .loop-test .taken) (omega arith) (c .enum-told2 .given .1) (c .before .before .link-verdict .ensures) ∙ sym (t .before .loop .inv .1)
 
 add-l : tie.Need-add-l Inv-loop μ-loop
 add-l c = search needs
@@ -74,9 +74,9 @@ links-verdict-spec =
     shared-slice-read-link-verdict-2
     cast-link-verdict
     link-verdict-requires
-    enum-known-verdict
-    returns
     enum-told
+    enum-told-2
+    returns
     add-l
     loop-less
     loop-again

@@ -76,16 +76,17 @@ cast-packet-verdict c = omega arith
 packet-verdict-requires : tie.Need-packet-verdict-requires Inv-loop μ-loop
 packet-verdict-requires c κs = search needs
 
-enum-known-verdict : tie.Need-enum-known-verdict Inv-loop μ-loop
-enum-known-verdict c = search needs
+enum-told : tie.Need-enum-told Inv-loop μ-loop
+enum-told c = search needs
+
+enum-told-2 : tie.Need-enum-told-2 Inv-loop μ-loop
+enum-told-2 c = search needs
 
 returns : tie.Need-returns Inv-loop μ-loop
 returns c =
-    let w = c .before .before .before .before .before .before in
-    sym (at w .loop .inv .2 ∙ packets-refused _ _ _ _ _ _ (w .wide .ensures) (w .before .before .loop-test .taken) (omega arith) (c .before .verdict .given .1) (c .before .before .before .packet-verdict .ensures))
-
-enum-told : tie.Need-enum-told Inv-loop μ-loop
-enum-told c = search needs
+    let w = c .before .before .before .before .before in
+    packets-refused _ _ _ _ _ _ (w .wide .ensures) (w .before .before .loop-test .taken) (omega arith) (c .enum-told2 .given .1) (c .before .before .packet-verdict .ensures)
+    ∙ sym (at w .loop .inv .2)
 
 add-k : tie.Need-add-k Inv-loop μ-loop
 add-k c = search needs
@@ -122,9 +123,9 @@ packets-verdict-spec =
     shared-slice-read-packet-verdict
     cast-packet-verdict
     packet-verdict-requires
-    enum-known-verdict
-    returns
     enum-told
+    enum-told-2
+    returns
     add-k
     loop-less
     loop-again

@@ -5,22 +5,22 @@ use borrow.Author.Needs.{needs}
 use borrow.Author.Tests.{eq-eqb, ne-eqb}
 use Rattle.theorems.proofs.Accepted.{tables-fine-iff}
 use Rattle.rules.specs.Answers.{startedVerdict}
-use Rattle.job.proofs.Laws.{after-refusal, after-fine}
+use Rattle.job.proofs.Laws.{refusal-stays, after-fine}
 use Rattle.job.proofs.started.Statement.{statement}
 use Rattle.job.proofs.started.Tie as tie
 
 tables-requires : tie.Need-tables-requires
 tables-requires c κs = search needs
 
-enum-known-verdict : tie.Need-enum-known-verdict
-enum-known-verdict c = search needs
+enum-told : tie.Need-enum-told
+enum-told c = search needs
+
+enum-told-2 : tie.Need-enum-told-2
+enum-told-2 c = search needs
 
 returns : tie.Need-returns
 unfolding startedVerdict
-returns c = sym (after-refusal (c .before .verdict .given .1) (c .before .before .before .tables .ensures) _)
-
-enum-told : tie.Need-enum-told
-enum-told c = search needs
+returns c = refusal-stays (c .enum-told2 .given .1) (c .before .before .tables .ensures) _
 
 returns-2 : tie.Need-returns-2
 unfolding startedVerdict
@@ -38,9 +38,9 @@ started-spec =
     tie.close
     (tie.spec
     tables-requires
-    enum-known-verdict
-    returns
     enum-told
+    enum-told-2
+    returns
     returns-2
     starts-verdict-requires
     returns-3)

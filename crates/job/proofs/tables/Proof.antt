@@ -9,7 +9,7 @@ use lib.ListN.{length}
 use Rattle.rules.specs.Network.{Job}
 use Rattle.rules.specs.Tables.{stopsAgree, tables}
 use Rattle.job.specs.Lists.{jobOf}
-use Rattle.job.proofs.Laws.{job-fits, links-then-packets, after-refusal, after-fine, job-within, tables-no-ends, tables-no-stops, tables-stops-fall, tables-oversize, tables-on}
+use Rattle.job.proofs.Laws.{job-fits, links-then-packets, refusal-stays, after-fine, job-within, tables-no-ends, tables-no-stops, tables-stops-fall, tables-oversize, tables-on}
 use Rattle.job.proofs.tables.Statement.{statement}
 use Rattle.job.proofs.tables.Tie as tie
 
@@ -51,14 +51,14 @@ returns-4 c = let d = c .before .before in sym (tables-oversize _ (d .before .be
 links-verdict-requires : tie.Need-links-verdict-requires
 links-verdict-requires c κs = (omega arith, job-within (lent c) (fits c) .0)
 
-enum-known-links : tie.Need-enum-known-links
-enum-known-links c = search needs
-
-returns-5 : tie.Need-returns-5
-returns-5 c = sym (passed (c .before .before .before .before) ∙ after-refusal (c .before .links .given .1) (c .before .before .before .links-verdict .ensures) _)
-
 enum-told : tie.Need-enum-told
 enum-told c = search needs
+
+enum-told-2 : tie.Need-enum-told-2
+enum-told-2 c = search needs
+
+returns-5 : tie.Need-returns-5
+returns-5 c = refusal-stays (c .enum-told2 .given .1) (c .before .before .links-verdict .ensures) _ ∙ sym (passed (c .before .before .before))
 
 packets-verdict-requires : tie.Need-packets-verdict-requires
 packets-verdict-requires c κs = (omega arith, (let d = c .before .before .before in job-within (lent d) (fits d) .1), agree (c .before .before .before .before .before))
@@ -77,8 +77,8 @@ tables-spec =
     sizes-fit-requires
     returns-4
     links-verdict-requires
-    enum-known-links
-    returns-5
     enum-told
+    enum-told-2
+    returns-5
     packets-verdict-requires
     returns-6)

@@ -8,14 +8,14 @@ use Rattle.planner.proofs.plan.Tie as tie
 tables-requires : tie.Need-tables-requires
 tables-requires c κs = search needs
 
-enum-known-verdict : tie.Need-enum-known-verdict
-enum-known-verdict c = search needs
-
-returns : tie.Need-returns
-returns c = plan-refused _ _ (c .before .before .before .tables .ensures) _ (c .before .verdict .given .1) _
-
 enum-told : tie.Need-enum-told
 enum-told c = search needs
+
+enum-told-2 : tie.Need-enum-told-2
+enum-told-2 c = search needs
+
+returns : tie.Need-returns
+returns c = plan-refused _ _ (c .before .before .tables .ensures) _ (c .enum-told2 .given .1) _
 
 returns-2 : tie.Need-returns-2
 returns-2 c = plan-short _ _ (c .before .before .before .tables .ensures) (c .before .enum-told .given .1) _ (omega arith)
@@ -35,4 +35,4 @@ returns-3 c =
     plan-filled _ _ (t .tables .ensures) (c .before .before .before .before .before .enum-told .given .1) _ _ (omega arith) (c .before .before .fill .ensures)
 
 pub plan-spec : {M : Type 1} → statement M
-plan-spec = tie.close (tie.spec tables-requires enum-known-verdict returns enum-told returns-2 fill-requires same-length returns-3)
+plan-spec = tie.close (tie.spec tables-requires enum-told enum-told-2 returns returns-2 fill-requires same-length returns-3)
