@@ -19,9 +19,10 @@ use Rattle.planner.proofs.Obeys.{planned-greedy, plan-writes-greedy}
 use Rattle.plan_text.specs.declared.Written.{Written}
 use Rattle.plan_text.specs.declared.Written.the-variants.{Refused as TextRefused}
 use Rattle.plan_text.specs.Told.{WrittenAs}
+use Rattle.answer.specs.Told.{inARow}
 
 module _ (j : Job) (places : ℕ) {v : Verdict} {lent after : List ℕ} (p : PlannedAs (planned j places) v lent after) (room : List ℕ) where
-  pub plan-refused : (r : Refusal) → v ≡ Refused r → WrittenAs (onward (planned j places) (λ ss. written j ss (length room))) (TextRefused r) room room
+  pub plan-refused : (r : Refusal) → v ≡ Refused r → WrittenAs (inARow j places (length room)) (TextRefused r) room room
   unfolding lentAfter
   plan-refused r e = go (planned j places) (rw e at (p .verdict))
     where
@@ -35,7 +36,7 @@ module _ (j : Job) (places : ℕ) {v : Verdict} {lent after : List ℕ} (p : Pla
       let accepted = planned-greedy j places lent after fine .0 in
       omega (arith, length-take (length (paths j)) after, ap length (plan-writes-greedy j places lent after fine), length-greedy j, length-paths j, tables-fine-iff j .0 accepted .stops-count)
 
-  pub plan-written : v ≡ Fine → {w : Written} {text : List ℕ} → WrittenAs (written j (take (length (j .sources) - 0) after) (length room)) w room text → WrittenAs (onward (planned j places) (λ ss. written j ss (length room))) w room text
+  pub plan-written : v ≡ Fine → {w : Written} {text : List ℕ} → WrittenAs (written j (take (length (j .sources) - 0) after) (length room)) w room text → WrittenAs (inARow j places (length room)) w room text
   plan-written e w =
       let fine = rw e at p in
       let (accepted, found) = planned-greedy j places lent after fine in

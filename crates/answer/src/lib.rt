@@ -1,11 +1,11 @@
 // From a job's text to its plan's text, and to what is printed: reader, planner and writer in a row.
 ghost use Prim.Native.Nat.{_≤_};
-ghost use Rattle.rules.specs.Outcome.{onward};
 ghost use lib.ListN.{length};
-ghost use Rattle.rules.specs.Answers.{answered, planned, plans, written};
-ghost use Rattle.job.specs.Lists.{jobOf};
+ghost use Rattle.rules.specs.Handed.{given, left};
+ghost use Rattle.rules.specs.Answers.{answered, plans};
+ghost use Rattle.job.specs.Lists.{jobIn};
 ghost use Rattle.plan_text.specs.Told.{WrittenAs};
-ghost use Rattle.answer.specs.Told.{PrintedAs};
+ghost use Rattle.answer.specs.Told.{inARow, PrintedAs};
 use job::Job;
 use job::Verdict;
 use job::wide;
@@ -24,14 +24,12 @@ fn planned_text(
     starts: &mut [u16],
     room: &mut [u8],
 ) -> Written
-    ensures { λ r. ⌜ WrittenAs (onward (planned (jobOf nodes (now (origins .entry)) (now (ends .entry)) (now (sources .entry)) (now (stops .entry)) (now (hops .entry))) (length (now (starts .entry)))) (λ found. written (jobOf nodes (now (origins .entry)) (now (ends .entry)) (now (sources .entry)) (now (stops .entry)) (now (hops .entry))) found (length (now (room .entry))))) r (now (room .entry)) (now (room .exit)) ⌝ }
+    ensures { λ r. ⌜ WrittenAs (inARow (jobIn nodes origins ends sources stops hops) (length (given starts)) (length (given room))) r
+        (given room) (left room) ⌝ }
 {
     let verdict = planner::plan(nodes, origins, ends, sources, stops, hops, starts);
-    match verdict {
-        Verdict::Refused(refusal) => {
-            return Written::Refused(refusal);
-        }
-        Verdict::Fine => {}
+    if let Verdict::Refused(refusal) = verdict {
+        return Written::Refused(refusal);
     }
     let packets = sources.len();
     plan_text::write(
@@ -48,7 +46,7 @@ fn planned_text(
 
 // The plan's bytes for a job's bytes, in the lent room.
 pub fn answer(text: &[u8], room: &mut [u8]) -> Written
-    ensures { λ r. ⌜ WrittenAs (answered (now (text .entry)) (length (now (room .entry)))) r (now (room .entry)) (now (room .exit)) ⌝ }
+    ensures { λ r. ⌜ WrittenAs (answered (given text) (length (given room))) r (given room) (left room) ⌝ }
 {
     let mut origins = [0; Job::LINKS];
     let mut ends = [0; Job::LINKS];
@@ -88,8 +86,8 @@ pub const ROOM: usize = 19473;
 
 // What the program `plan` prints for a job's bytes, the plan or the line that tells why there is none, and how many bytes it is.
 pub fn print(text: &[u8], room: &mut [u8; ROOM]) -> usize
-    ensures { λ r. ⌜ PrintedAs (plans (now (text .entry))) r (now (room .entry)) (now (room .exit)) ⌝ }
-    ensures near { λ r. ⌜ r ≤ length (now (room .exit)) ⌝ }
+    ensures { λ r. ⌜ PrintedAs (plans (given text)) r (given room) (left room) ⌝ }
+    ensures near { λ r. ⌜ r ≤ length (left room) ⌝ }
 {
     let told = answer(text, room);
     match told {

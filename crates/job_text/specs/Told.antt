@@ -6,6 +6,8 @@ use Prim.Native.Nat.{ℕ, _-_}
 use lib.Dec.{eqb, leb}
 use lib.ListN.{length, replicate}
 use Rattle.counting.specs.Count.{pick}
+use denote.Ref.{RefT}
+use Rattle.rules.specs.Handed.{Handed, given, left}
 use Rattle.rules.specs.Sizes.{textMost, linksMost, packetsMost, hopsMost}
 use Rattle.rules.specs.Network.{Job}
 use Rattle.rules.specs.Outcome.{Outcome, is, refused, must, _then_, onward}
@@ -25,6 +27,16 @@ pub record Lists : Type 0 where
 
 abbrev pub lists : (origins ends sources stops hops : List ℕ) → Lists
 lists origins ends sources stops hops = record { origins = origins; ends = ends; sources = sources; stops = stops; hops = hops }
+
+-- the five lists that a function is handed, at the call and at the return
+abbrev pub listsGiven : {A B C D E : Type 0} → Handed A → Handed B → Handed C → Handed D → Handed E → Lists
+listsGiven origins ends sources stops hops = lists (given origins) (given ends) (given sources) (given stops) (given hops)
+
+abbrev pub Lent : Type 0
+Lent = Handed (RefT (List ℕ))
+
+abbrev pub listsLeft : (origins ends sources stops hops : Lent) → Lists
+listsLeft origins ends sources stops hops = lists (left origins) (left ends) (left sources) (left stops) (left hops)
 
 -- lists so long are none shorter than its size
 abbrev pub roomFor : (origins ends sources stops hops : ℕ) → Bool

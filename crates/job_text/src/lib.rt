@@ -4,12 +4,13 @@ ghost use mathlib.Core.List.{List};
 ghost use mathlib.Core.Option.{some};
 ghost use Prim.Native.Nat.{ℕ, _+_, _≤_};
 ghost use lib.ListN.{length, drop};
+ghost use Rattle.rules.specs.Handed.{given, left};
 ghost use Rattle.rules.specs.Sizes.{textMost, linksMost};
 ghost use Rattle.rules.specs.Bytes.{lineFeed, numbersOf, split};
 ghost use Rattle.rules.specs.JobText.{letterLine, lineOf, link, packet as packetLine, withLine, firstLine, allLines};
 ghost use Rattle.theorems.proofs.TextSteps.{read as readLines};
 ghost use Rattle.lines.specs.Fields.{fieldsFrom, howMany, leading};
-ghost use Rattle.job_text.specs.Told.{Lists, lists, roomFor, readIn, ReadAs};
+ghost use Rattle.job_text.specs.Told.{Lists, lists, listsGiven, listsLeft, roomFor, readIn, ReadAs};
 ghost use Rattle.job_text.specs.SoFar.{lineTold, LineAs, soFar, Room, Within, Took, front, Fronts, keptOf};
 use job::Job;
 use job::Refusal;
@@ -49,7 +50,7 @@ enum Line {
 // A line with this letter, behind which the fields say so many numbers.
 fn line_with(line: &[u8], letter: u8, count: usize) -> Line
     requires { ⌜ howMany (numbersOf (fieldsFrom (now line) 1)) ≡ some count ⌝ }
-    ensures { λ r. ⌜ LineAs (letterLine letter (numbersOf (fieldsFrom (now (line .entry)) 1))) (now (line .entry)) r ⌝ }
+    ensures { λ r. ⌜ LineAs (letterLine letter (numbersOf (fieldsFrom (given line) 1))) (given line) r ⌝ }
 {
     let mut numbers = [0u16; 2];
     copy_numbers(line, 1, &mut numbers, 0);
@@ -82,7 +83,7 @@ fn line_with(line: &[u8], letter: u8, count: usize) -> Line
 }
 
 fn line_of(line: &[u8]) -> Line
-    ensures { λ r. ⌜ LineAs (lineOf (now (line .entry))) (now (line .entry)) r ⌝ }
+    ensures { λ r. ⌜ LineAs (lineOf (given line)) (given line) r ⌝ }
 {
     let letter = letter_of(line);
     let counted = count_numbers(line, 1);
@@ -102,7 +103,9 @@ fn add_link(
     ends: &mut [u16],
 ) -> Reading
     requires { ⌜ Within job × (linksMost ≤ length (now origins)) × (linksMost ≤ length (now ends)) ⌝ }
-    ensures { λ r. ⌜ ((ss ts hs : List ℕ) → Room (lists (now (origins .entry)) (now (ends .entry)) ss ts hs) → Took (withLine line (soFar job (lists (now (origins .entry)) (now (ends .entry)) ss ts hs)) (link from to)) r (lists (now (origins .exit)) (now (ends .exit)) ss ts hs)) ⌝ }
+    ensures { λ r. ⌜ ((ss ts hs : List ℕ) → Room (lists (given origins) (given ends) ss ts hs) → Took
+        (withLine line (soFar job (lists (given origins) (given ends) ss ts hs)) (link from to)) r
+        (lists (left origins) (left ends) ss ts hs)) ⌝ }
 {
     let links = wide(job.links);
     let packets = wide(job.packets);
@@ -142,8 +145,12 @@ fn add_packet(
     stops: &mut [u16],
     hops: &mut [u16],
 ) -> Reading
-    requires { ⌜ Within job × Room (lists (now origins) (now ends) (now sources) (now stops) (now hops)) × (packet .count ≡ length (leading (fieldsFrom (now bytes) (packet .at)))) ⌝ }
-    ensures { λ r. ⌜ Took (withLine line (soFar job (lists (now (origins .entry)) (now (ends .entry)) (now (sources .entry)) (now (stops .entry)) (now (hops .entry)))) (packetLine (packet .source) (leading (fieldsFrom (now (bytes .entry)) (packet .at))))) r (lists (now (origins .entry)) (now (ends .entry)) (now (sources .exit)) (now (stops .exit)) (now (hops .exit))) ⌝ }
+    requires { ⌜ Within job × Room (lists (now origins) (now ends) (now sources) (now stops) (now hops))
+        × (packet .count ≡ length (leading (fieldsFrom (now bytes) (packet .at)))) ⌝ }
+    ensures { λ r. ⌜ Took
+        (withLine line (soFar job (listsGiven origins ends sources stops hops))
+        (packetLine (packet .source) (leading (fieldsFrom (given bytes) (packet .at))))) r
+        (lists (given origins) (given ends) (left sources) (left stops) (left hops)) ⌝ }
 {
     let links = wide(job.links);
     let packets = wide(job.packets);
@@ -191,7 +198,8 @@ fn add_line(
     hops: &mut [u16],
 ) -> Reading
     requires { ⌜ Within job × Room (lists (now origins) (now ends) (now sources) (now stops) (now hops)) ⌝ }
-    ensures { λ r. ⌜ Took (withLine line (soFar job (lists (now (origins .entry)) (now (ends .entry)) (now (sources .entry)) (now (stops .entry)) (now (hops .entry)))) (lineOf (now (bytes .entry)))) r (lists (now (origins .exit)) (now (ends .exit)) (now (sources .exit)) (now (stops .exit)) (now (hops .exit))) ⌝ }
+    ensures { λ r. ⌜ Took (withLine line (soFar job (listsGiven origins ends sources stops hops)) (lineOf (given bytes))) r
+        (listsLeft origins ends sources stops hops) ⌝ }
 {
     let said = line_of(bytes);
     match said {
@@ -223,8 +231,11 @@ fn add_lines(
     stops: &mut [u16],
     hops: &mut [u16],
 ) -> Reading
-    requires { ⌜ Within begun × Room (lists (now origins) (now ends) (now sources) (now stops) (now hops)) × (length (now text) ≤ textMost) × (first .line ≤ first .at + 1) ⌝ }
-    ensures { λ r. ⌜ Took (readLines (first .line) (soFar begun (lists (now (origins .entry)) (now (ends .entry)) (now (sources .entry)) (now (stops .entry)) (now (hops .entry)))) (split lineFeed (drop (first .at) (now (text .entry))))) r (lists (now (origins .exit)) (now (ends .exit)) (now (sources .exit)) (now (stops .exit)) (now (hops .exit))) ⌝ }
+    requires { ⌜ Within begun × Room (lists (now origins) (now ends) (now sources) (now stops) (now hops))
+        × (length (now text) ≤ textMost) × (first .line ≤ first .at + 1) ⌝ }
+    ensures { λ r. ⌜ Took
+        (readLines (first .line) (soFar begun (listsGiven origins ends sources stops hops)) (split lineFeed (drop (first .at) (given text)))) r
+        (listsLeft origins ends sources stops hops) ⌝ }
 {
     let mut cursor = first;
     let mut job = begun;
@@ -290,7 +301,7 @@ fn read_lines(
     hops: &mut [u16],
 ) -> Reading
     requires { ⌜ (length (now text) ≤ textMost) × Room (lists (now origins) (now ends) (now sources) (now stops) (now hops)) ⌝ }
-    ensures { λ r. ⌜ Took (allLines (split lineFeed (now (text .entry)))) r (lists (now (origins .exit)) (now (ends .exit)) (now (sources .exit)) (now (stops .exit)) (now (hops .exit))) ⌝ }
+    ensures { λ r. ⌜ Took (allLines (split lineFeed (given text))) r (listsLeft origins ends sources stops hops) ⌝ }
 {
     let next_line = Lines::top().next(text);
     match next_line {
@@ -310,7 +321,7 @@ fn read_lines(
 
 // Zeros from a place on.
 fn clear(list: &mut [u16], from: usize)
-    ensures { λ _. ⌜ now (list .exit) ≡ front from (now (list .entry)) ⌝ }
+    ensures { λ _. ⌜ left list ≡ front from (given list) ⌝ }
 {
     let mut i = from;
     while i < list.len() {
@@ -328,7 +339,7 @@ fn clear_past(
     stops: &mut [u16],
     hops: &mut [u16],
 )
-    ensures { λ _. ⌜ Fronts counts (lists (now (origins .entry)) (now (ends .entry)) (now (sources .entry)) (now (stops .entry)) (now (hops .entry))) (lists (now (origins .exit)) (now (ends .exit)) (now (sources .exit)) (now (stops .exit)) (now (hops .exit))) ⌝ }
+    ensures { λ _. ⌜ Fronts counts (listsGiven origins ends sources stops hops) (listsLeft origins ends sources stops hops) ⌝ }
 {
     let links = wide(counts.links);
     let packets = wide(counts.packets);
@@ -364,7 +375,8 @@ fn fill(
     hops: &mut [u16],
 ) -> Reading
     requires { ⌜ (length (now text) ≤ textMost) × Room (lists (now origins) (now ends) (now sources) (now stops) (now hops)) ⌝ }
-    ensures { λ r. ⌜ ReadAs (allLines (split lineFeed (now (text .entry)))) r (lists (now (origins .entry)) (now (ends .entry)) (now (sources .entry)) (now (stops .entry)) (now (hops .entry))) (lists (now (origins .exit)) (now (ends .exit)) (now (sources .exit)) (now (stops .exit)) (now (hops .exit))) ⌝ }
+    ensures { λ r. ⌜ ReadAs (allLines (split lineFeed (given text))) r
+        (listsGiven origins ends sources stops hops) (listsLeft origins ends sources stops hops) ⌝ }
 {
     let answer = read_lines(text, origins, ends, sources, stops, hops);
     clear_past(kept(answer), origins, ends, sources, stops, hops);
@@ -390,7 +402,8 @@ pub fn read(
     stops: &mut [u16],
     hops: &mut [u16],
 ) -> Reading
-    ensures { λ r. ⌜ ReadAs (readIn (now (text .entry)) (lists (now (origins .entry)) (now (ends .entry)) (now (sources .entry)) (now (stops .entry)) (now (hops .entry)))) r (lists (now (origins .entry)) (now (ends .entry)) (now (sources .entry)) (now (stops .entry)) (now (hops .entry))) (lists (now (origins .exit)) (now (ends .exit)) (now (sources .exit)) (now (stops .exit)) (now (hops .exit))) ⌝ }
+    ensures { λ r. ⌜ ReadAs (readIn (given text) (listsGiven origins ends sources stops hops)) r
+        (listsGiven origins ends sources stops hops) (listsLeft origins ends sources stops hops) ⌝ }
 {
     if text.len() > Job::TEXT {
         return Reading::Refused(Refusal::TextTooLong);

@@ -5,12 +5,13 @@ ghost use Prim.Native.Nat.{ℕ, _+_, _*_, _≤_, _<_, max};
 ghost use lib.ListN.{length, getD};
 ghost use Rattle.counting.specs.Count.{maxOf};
 ghost use Rattle.counting.proofs.Hits.{occurs};
+ghost use Rattle.rules.specs.Handed.{given, left};
 ghost use Rattle.rules.specs.Sizes.{linksMost, packetsMost};
 ghost use Rattle.rules.specs.Network.{Job as RuledJob};
 ghost use Rattle.rules.specs.Counts.{routingTime};
 ghost use Rattle.rules.specs.PlanText.{packetLines, planText};
 ghost use Rattle.rules.specs.Answers.{written};
-ghost use Rattle.job.specs.Lists.{jobOf};
+ghost use Rattle.job.specs.Lists.{jobIn};
 ghost use Rattle.lines.specs.Put.{Put, longestLine};
 ghost use Rattle.plan_text.specs.Listed.{Rising, hopCount, StopsOf, Linked, mostOften, Listed, ListsOf};
 ghost use Rattle.plan_text.specs.Told.{WrittenAs};
@@ -31,7 +32,7 @@ fn greater(a: u32, b: u32) -> u32
 // How many hops packet k has: those from the stop before its own.
 fn hop_count(stops: &[u16], k: usize) -> Hop
     requires { ⌜ Rising (now stops) × (k < length (now stops)) ⌝ }
-    ensures { λ r. ⌜ r .0 ≡ hopCount (now (stops .entry)) k ⌝ }
+    ensures { λ r. ⌜ r .0 ≡ hopCount (given stops) k ⌝ }
 {
     if k == 0 {
         Hop(stops[0])
@@ -43,7 +44,7 @@ fn hop_count(stops: &[u16], k: usize) -> Hop
 // The end of packet k: the step after its last hop.
 fn end(stops: &[u16], starts: &[u16], k: usize) -> Step
     requires { ⌜ Rising (now stops) × (k < length (now stops)) × (k < length (now starts)) ⌝ }
-    ensures { λ r. ⌜ r .0 ≡ getD (now (starts .entry)) k 0 + hopCount (now (stops .entry)) k ⌝ }
+    ensures { λ r. ⌜ r .0 ≡ getD (given starts) k 0 + hopCount (given stops) k ⌝ }
 {
     Step::of(starts[k], hop_count(stops, k))
 }
@@ -51,7 +52,7 @@ fn end(stops: &[u16], starts: &[u16], k: usize) -> Step
 // The routing time: the greatest end.
 fn routing_time(stops: &[u16], starts: &[u16]) -> u32
     requires { ⌜ Rising (now stops) × (length (now starts) ≡ length (now stops)) ⌝ }
-    ensures { λ r. ⌜ ((paths : List (List ℕ)) → StopsOf paths (now (stops .entry)) → r ≡ routingTime (now (starts .entry)) paths) ⌝ }
+    ensures { λ r. ⌜ ((paths : List (List ℕ)) → StopsOf paths (given stops) → r ≡ routingTime (given starts) paths) ⌝ }
 {
     let mut time = 0;
     let mut k = 0;
@@ -65,7 +66,7 @@ fn routing_time(stops: &[u16], starts: &[u16]) -> u32
 // D: the hops of the longest path.
 fn dilation(stops: &[u16]) -> u32
     requires { ⌜ Rising (now stops) ⌝ }
-    ensures { λ r. ⌜ ((paths : List (List ℕ)) → StopsOf paths (now (stops .entry)) → r ≡ maxOf (λ p. length p) paths) ⌝ }
+    ensures { λ r. ⌜ ((paths : List (List ℕ)) → StopsOf paths (given stops) → r ≡ maxOf (λ p. length p) paths) ⌝ }
 {
     let mut most = 0;
     let mut k = 0;
@@ -79,7 +80,7 @@ fn dilation(stops: &[u16]) -> u32
 // How often each link is among the hops.
 fn tally(hops: &[u16]) -> [u16; Job::LINKS]
     requires { ⌜ Linked (now hops) ⌝ }
-    ensures { λ r. ⌜ ((link : ℕ) → link < linksMost → getD r link 0 ≡ occurs link (now (hops .entry))) ⌝ }
+    ensures { λ r. ⌜ ((link : ℕ) → link < linksMost → getD r link 0 ≡ occurs link (given hops)) ⌝ }
 {
     let mut times = [0; Job::LINKS];
     let mut i = 0;
@@ -94,7 +95,7 @@ fn tally(hops: &[u16]) -> [u16; Job::LINKS]
 // C: no path has a link twice, so it is how often the link met most often is among the hops.
 fn congestion(links: usize, hops: &[u16]) -> u32
     requires { ⌜ Linked (now hops) × (links ≤ linksMost) ⌝ }
-    ensures { λ r. ⌜ r ≡ mostOften links (now (hops .entry)) ⌝ }
+    ensures { λ r. ⌜ r ≡ mostOften links (given hops) ⌝ }
 {
     let times = tally(hops);
     let mut most = 0;
@@ -109,7 +110,7 @@ fn congestion(links: usize, hops: &[u16]) -> u32
 // Writes a line for each packet.
 fn packet_lines(room: &mut [u8], stops: &[u16], starts: &[u16]) -> usize
     requires { ⌜ Rising (now stops) × (length (now starts) ≡ length (now stops)) × (length (now stops) ≤ packetsMost) ⌝ }
-    ensures { λ r. ⌜ ((paths : List (List ℕ)) → StopsOf paths (now (stops .entry)) → Put (now (room .entry)) 0 (packetLines 0 (now (starts .entry)) paths) (now (room .exit)) r) ⌝ }
+    ensures { λ r. ⌜ ((paths : List (List ℕ)) → StopsOf paths (given stops) → Put (given room) 0 (packetLines 0 (given starts) paths) (left room) r) ⌝ }
     ensures near { λ r. ⌜ r ≤ longestLine 3 * packetsMost ⌝ }
 {
     let mut at = 0;
@@ -125,7 +126,7 @@ fn packet_lines(room: &mut [u8], stops: &[u16], starts: &[u16]) -> usize
 // Writes the plan's text, as far as the room goes, and gives its length.
 fn text(room: &mut [u8], links: usize, stops: &[u16], hops: &[u16], starts: &[u16]) -> usize
     requires { ⌜ Listed links (now stops) (now hops) (now starts) ⌝ }
-    ensures { λ r. ⌜ ((j : RuledJob) → ListsOf j links (now (stops .entry)) (now (hops .entry)) → Put (now (room .entry)) 0 (planText j (now (starts .entry))) (now (room .exit)) r) ⌝ }
+    ensures { λ r. ⌜ ((j : RuledJob) → ListsOf j links (given stops) (given hops) → Put (given room) 0 (planText j (given starts)) (left room) r) ⌝ }
     ensures near { λ r. ⌜ r ≤ longestLine 3 * packetsMost + longestLine 3 ⌝ }
 {
     let at = packet_lines(room, stops, starts);
@@ -152,14 +153,11 @@ pub fn write(
     starts: &[u16],
     room: &mut [u8],
 ) -> Written
-    ensures { λ r. ⌜ WrittenAs (written (jobOf nodes (now (origins .entry)) (now (ends .entry)) (now (sources .entry)) (now (stops .entry)) (now (hops .entry))) (now (starts .entry)) (length (now (room .entry)))) r (now (room .entry)) (now (room .exit)) ⌝ }
+    ensures { λ r. ⌜ WrittenAs (written (jobIn nodes origins ends sources stops hops) (given starts) (length (given room))) r (given room) (left room) ⌝ }
 {
     let verdict = job::started(nodes, origins, ends, sources, stops, hops, starts);
-    match verdict {
-        Verdict::Refused(refusal) => {
-            return Written::Refused(refusal);
-        }
-        Verdict::Fine => {}
+    if let Verdict::Refused(refusal) = verdict {
+        return Written::Refused(refusal);
     }
     let mut trial = [0; 1];
     let bytes = text(&mut trial, origins.len(), stops, hops, starts);

@@ -2,10 +2,11 @@
 ghost use mathlib.Core.Path.{_≡_};
 ghost use mathlib.Core.List.{[], _∷_};
 ghost use lib.ListN.{length};
+ghost use Rattle.rules.specs.Handed.{given, left};
 ghost use Rattle.rules.specs.Outcome.{is, onward};
 ghost use Rattle.rules.specs.Tables.{tables as tablesVerdict};
 ghost use Rattle.rules.specs.Answers.{planned, led, inRoom, written, answered};
-ghost use Rattle.job.specs.Lists.{jobOf};
+ghost use Rattle.job.specs.Lists.{jobIn};
 ghost use Rattle.job.specs.Told.{refusalOf};
 ghost use Rattle.plan_text.specs.Told.{writtenOf};
 ghost use Rattle.zhevgulor.specs.Told.{answerFor, leadFor, LentAs, checkedIn};
@@ -59,7 +60,7 @@ pub extern "C" fn zhevgulor_tables(
     stops: &[u16],
     hops: &[u16],
 ) -> Answer
-    ensures { λ r. ⌜ r ≡ answerFor (onward (tablesVerdict (jobOf nodes (now (origins .entry)) (now (ends .entry)) (now (sources .entry)) (now (stops .entry)) (now (hops .entry)))) (λ fine. is 0)) ⌝ }
+    ensures { λ r. ⌜ r ≡ answerFor (onward (tablesVerdict (jobIn nodes origins ends sources stops hops)) (λ fine. is 0)) ⌝ }
 {
     let verdict = job::tables(nodes, origins, ends, sources, stops, hops);
     match verdict {
@@ -79,7 +80,7 @@ pub extern "C" fn zhevgulor_starts(
     hops: &[u16],
     starts: &mut [u16],
 ) -> Answer
-    ensures { λ r. ⌜ LentAs (planned (jobOf nodes (now (origins .entry)) (now (ends .entry)) (now (sources .entry)) (now (stops .entry)) (now (hops .entry))) (length (now (starts .entry)))) r (now (starts .entry)) (now (starts .exit)) ⌝ }
+    ensures { λ r. ⌜ LentAs (planned (jobIn nodes origins ends sources stops hops) (length (given starts))) r (given starts) (left starts) ⌝ }
 {
     let verdict = planner::plan(nodes, origins, ends, sources, stops, hops, starts);
     match verdict {
@@ -90,7 +91,7 @@ pub extern "C" fn zhevgulor_starts(
 
 // The four numbers of a clash, where there is room for them.
 fn shown(later: u16, earlier: u16, link: u16, step: Step, clash: &mut [u32]) -> Answer
-    ensures { λ r. ⌜ LentAs (inRoom (later ∷ earlier ∷ link ∷ step .0 ∷ []) (length (now (clash .entry)))) r (now (clash .entry)) (now (clash .exit)) ⌝ }
+    ensures { λ r. ⌜ LentAs (inRoom (later ∷ earlier ∷ link ∷ step .0 ∷ []) (length (given clash))) r (given clash) (left clash) ⌝ }
 {
     if clash.len() < 4 {
         return refused(Refusal::ShortRoom);
@@ -115,7 +116,7 @@ pub extern "C" fn zhevgulor_check(
     starts: &[u16],
     clash: &mut [u32],
 ) -> Answer
-    ensures { λ r. ⌜ LentAs (checkedIn (jobOf nodes (now (origins .entry)) (now (ends .entry)) (now (sources .entry)) (now (stops .entry)) (now (hops .entry))) (now (starts .entry)) (length (now (clash .entry)))) r (now (clash .entry)) (now (clash .exit)) ⌝ }
+    ensures { λ r. ⌜ LentAs (checkedIn (jobIn nodes origins ends sources stops hops) (given starts) (length (given clash))) r (given clash) (left clash) ⌝ }
 {
     let checked = planner::check(nodes, origins, ends, sources, stops, hops, starts);
     match checked {
@@ -144,7 +145,7 @@ pub extern "C" fn zhevgulor_lead(
     b: u16,
     link: u16,
 ) -> LeadAnswer
-    ensures { λ r. ⌜ r ≡ leadFor (led (jobOf nodes (now (origins .entry)) (now (ends .entry)) (now (sources .entry)) (now (stops .entry)) (now (hops .entry))) (now (starts .entry)) a b link) ⌝ }
+    ensures { λ r. ⌜ r ≡ leadFor (led (jobIn nodes origins ends sources stops hops) (given starts) a b link) ⌝ }
 {
     let led = planner::lead(
         nodes,
@@ -193,7 +194,7 @@ pub extern "C" fn zhevgulor_plan_text(
     starts: &[u16],
     room: &mut [u8],
 ) -> Answer
-    ensures { λ r. ⌜ LentAs (written (jobOf nodes (now (origins .entry)) (now (ends .entry)) (now (sources .entry)) (now (stops .entry)) (now (hops .entry))) (now (starts .entry)) (length (now (room .entry)))) r (now (room .entry)) (now (room .exit)) ⌝ }
+    ensures { λ r. ⌜ LentAs (written (jobIn nodes origins ends sources stops hops) (given starts) (length (given room))) r (given room) (left room) ⌝ }
 {
     let text = plan_text::write(nodes, origins, ends, sources, stops, hops, starts, room);
     told(text)
@@ -202,7 +203,7 @@ pub extern "C" fn zhevgulor_plan_text(
 // From a job's text to its plan's text: value is the number of bytes, which stand in the first places.
 #[no_mangle]
 pub extern "C" fn zhevgulor_plan(job: &[u8], room: &mut [u8]) -> Answer
-    ensures { λ r. ⌜ LentAs (answered (now (job .entry)) (length (now (room .entry)))) r (now (room .entry)) (now (room .exit)) ⌝ }
+    ensures { λ r. ⌜ LentAs (answered (given job) (length (given room))) r (given room) (left room) ⌝ }
 {
     let text = answer::answer(job, room);
     told(text)
