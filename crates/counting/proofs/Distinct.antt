@@ -10,10 +10,9 @@ use native.Mathlib.Nat.{suc-inj}
 use lib.Dec.{eqb}
 use lib.ListN.{length, getElem?}
 use borrow.Author.Tests.{eqb-true, eq-eqb}
-use Rattle.counting.specs.Count.{among, bit}
+use Rattle.counting.specs.Count.{among, occurs, bit}
 use Rattle.counting.proofs.Tests.{any-mem, any-true, false-of-not-true, never-both}
 use Rattle.counting.proofs.Sums.{sum-le-any}
-use Rattle.counting.proofs.Hits.{occurs}
 use Rattle.counting.proofs.Places.{at-below, at-mem, mem-at, at-append-left, at-append-seam, at-snoc}
 
 -- no number stands at two places

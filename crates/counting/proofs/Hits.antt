@@ -8,7 +8,7 @@ use native.Mathlib.Omega.{arith}
 use native.Mathlib.Nat.{not-suc-le-zero, eq-or-lt-of-le, le-of-suc-le-suc}
 use lib.Dec.{eqb}
 use borrow.Author.Tests.{eq-eqb}
-use Rattle.counting.specs.Count.{bit, anyOf, among, sumOf, sumBelow, hits, maxBelow}
+use Rattle.counting.specs.Count.{bit, anyOf, among, occurs, sumOf, sumBelow, hits, maxBelow}
 use Rattle.counting.proofs.Sums.{bit-or, sum-le, sum-same, sum-const, sum-le-any}
 
 pub sum-below-le : (f g : ℕ → ℕ) (n : ℕ) → ((i : ℕ) → i < n → f i ≤ g i) → sumBelow f n ≤ sumBelow g n
@@ -85,10 +85,6 @@ hits-some f (suc n) i h = go (eq-or-lt-of-le (le-of-suc-le-suc h)) (hits-some f 
     go : (i ≡ n) ⊎ (i < n) → (i < n → bit (f i) ≤ hits f n) → bit (f i) ≤ hits f (suc n)
     go (inl e) r = omega (arith, ap (λ (k : ℕ). bit (f k)) e)
     go (inr l) r = omega (arith, r l)
-
--- how often a number stands in a list
-abbrev pub occurs : ℕ → List ℕ → ℕ
-occurs n ns = sumOf (λ m. bit (eqb m n)) ns
 
 -- a list without repetitions whose elements are below n: summing a test over it is counting the numbers below n that pass
 -- and stand in it

@@ -7,6 +7,7 @@ use Prim.Native.Nat.{ℕ, zero, suc, _≤_, _<_}
 use native.Mathlib.Omega.{arith}
 use native.Mathlib.Nat.{not-suc-le-zero, le-of-suc-le-suc}
 use lib.ListN.{length, getD, take, drop, getElem?, take-append-drop, length-take}
+use lib.Seq.{take-length}
 
 module _ {A : Type 0} where
   pub some-same : {a b : A} → some a ≡ some b → a ≡ b
@@ -66,6 +67,15 @@ at-snoc [] y zero e = inr (refl, some-same e)
 at-snoc [] y (suc i) e = inl e
 at-snoc (z ∷ xs) y zero e = inl e
 at-snoc (z ∷ xs) y (suc i) e = ⊎-map (λ a. a) (λ b. (ap suc (b .0), b .1)) (at-snoc xs y i e)
+
+-- a list of no length is empty
+pub nil-of-length : {A : Type 0} (xs : List A) → length xs ≡ 0 → [] ≡ xs
+nil-of-length xs e = rw e at (take-length xs)
+
+pub take-map : {A B : Type 0} (f : A → B) (n : ℕ) (xs : List A) → take n (map f xs) ≡ map f (take n xs)
+take-map f zero xs = refl
+take-map f (suc n) [] = refl
+take-map f (suc n) (x ∷ xs) = ap (λ r. f x ∷ r) (take-map f n xs)
 
 pub at-map : {A B : Type 0} (f : A → B) (xs : List A) (i : ℕ) {x : A} → getElem? xs i ≡ some x → getElem? (map f xs) i ≡ some (f x)
 at-map f [] i e = absurd (none-not-some e)

@@ -1,7 +1,7 @@
 -- Laws of sums and greatest values over a list.
 use mathlib.Core.Path.{_≡_, refl, ap}
 use mathlib.Core.Bool.{Bool, true, false, _||_}
-use mathlib.Core.List.{List, [], _∷_, _++_, List·Memᴰ, List·Memᴰ·head as here, List·Memᴰ·tail as there}
+use mathlib.Core.List.{List, [], _∷_, _++_, map, List·Memᴰ, List·Memᴰ·head as here, List·Memᴰ·tail as there}
 use Prim.Native.Nat.{ℕ, _+_, _*_, _≤_}
 use native.Mathlib.Nat.{mul-suc}
 use native.Mathlib.Omega.{arith}
@@ -55,6 +55,10 @@ module _ {A : Type 0} where
   max-le f (x ∷ xs) n h = omega (arith, h x (here refl), max-le f xs n (λ y m. h y (there m)))
 
 module _ {A B : Type 0} where
+  pub sum-map : (f : B → ℕ) (g : A → B) (xs : List A) → sumOf f (map g xs) ≡ sumOf (λ x. f (g x)) xs
+  sum-map f g [] = refl
+  sum-map f g (x ∷ xs) = omega (arith, sum-map f g xs)
+
   pub sum-swap : (f : A → B → ℕ) (xs : List A) (ys : List B) → sumOf (λ x. sumOf (f x) ys) xs ≡ sumOf (λ y. sumOf (λ x. f x y) xs) ys
   sum-swap f [] ys = omega (arith, sum-const {A = B} 0 ys)
   sum-swap f (x ∷ xs) ys = omega (arith, sum-swap f xs ys, sum-add (f x) (λ y. sumOf (λ z. f z y) xs) ys)

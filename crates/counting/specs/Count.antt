@@ -33,6 +33,10 @@ module _ {A : Type 0} where
 abbrev pub among : ℕ → List ℕ → Bool
 among n ns = anyOf (λ m. eqb m n) ns
 
+-- how often the number stands in the list
+abbrev pub occurs : ℕ → List ℕ → ℕ
+occurs n ns = sumOf (λ m. bit (eqb m n)) ns
+
 abbrev pub sumBelow : (ℕ → ℕ) → ℕ → ℕ
 sumBelow f zero = 0
 sumBelow f (suc n) = f n + sumBelow f n

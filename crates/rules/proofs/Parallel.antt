@@ -1,14 +1,24 @@
--- Several links may join the same two nodes, and they are separate: packets on two of them both start at 0.
+-- Several links may join the same two nodes, and they are separate: packets that come to them in one step from two sources, and
+-- go on to two destinations, do not wait for each other.
 use mathlib.Core.Path.{_≡_, refl}
 use mathlib.Core.List.{[], _∷_}
-use Rattle.rules.specs.Network.{Job, pathsFrom, paths}
-use Rattle.rules.specs.Claims.{linkClaims, claims, takes, conflict, blocked}
+use Rattle.rules.specs.Network.{Job, pathsFrom, paths, packetsOf, packets}
+use Rattle.rules.specs.Travel.{delayOf}
+use Rattle.rules.specs.Claims.{linkClaims, claimsOf, claims, takes, conflict, blocked}
 use Rattle.rules.specs.Greedy.{scan, crossings, firstFree, greedyAfter, greedy}
 
--- two links from node 0 to node 1, and a packet on each
+-- links 1 and 2 both go from node 2 to node 3; packet 0 goes from node 0 over link 1 to node 4, packet 1 from node 1 over link 2 to
+-- node 5
 unfoldable pub parallel : Job
-parallel = record { network = record { nodes = 2; origins = 0 ∷ 0 ∷ []; ends = 1 ∷ 1 ∷ [] }; sources = 0 ∷ 0 ∷ []; stops = 1 ∷ 2 ∷ []; hops = 0 ∷ 1 ∷ [] }
+parallel =
+    record {
+      network = record { nodes = 6; origins = 0 ∷ 2 ∷ 2 ∷ 3 ∷ 1 ∷ 3 ∷ []; ends = 2 ∷ 3 ∷ 3 ∷ 4 ∷ 2 ∷ 5 ∷ [] };
+      sources = 0 ∷ 1 ∷ [];
+      stops = 3 ∷ 6 ∷ [];
+      hops = 0 ∷ 1 ∷ 3 ∷ 4 ∷ 2 ∷ 5 ∷ [];
+    }
 
 pub parallel-links-do-not-block : greedy parallel ≡ 0 ∷ 0 ∷ []
-unfolding parallel pathsFrom paths linkClaims claims takes conflict blocked scan crossings firstFree greedyAfter greedy
+unfolding parallel pathsFrom paths packetsOf packets delayOf linkClaims claimsOf claims takes conflict blocked
+    scan crossings firstFree greedyAfter greedy
 parallel-links-do-not-block = refl

@@ -4,10 +4,11 @@ use mathlib.Core.List.{List, [], _∷_, _++_}
 use mathlib.Core.Option.{Option, none, some}
 use Prim.Native.Nat.{ℕ}
 use lib.IntN.{ℤ, pos, negsuc}
-use Rattle.rules.specs.Network.{linkAt, pathsFrom, paths}
+use Rattle.rules.specs.Network.{linkAt, pathsFrom, paths, packetsOf, packets}
+use Rattle.rules.specs.Travel.{delayOf, travel}
 use Rattle.rules.specs.Outcome.{is, onward}
 use Rattle.rules.specs.Tables.{linkVerdict, walk, packetVerdict, linksVerdict, packetsVerdict, stopsAgree, tables}
-use Rattle.rules.specs.Claims.{linkClaims, claims, placed, takes, conflict, blocked}
+use Rattle.rules.specs.Claims.{linkClaims, claimsOf, claims, placed, takes, conflict, blocked}
 use Rattle.rules.specs.Greedy.{scan, crossings, firstFree, greedyAfter, greedy}
 use Rattle.rules.specs.Counts.{endOf, routingTime, load, congestion, dilation, shared, meetingsWith, meetingsAfter, meetings}
 use Rattle.rules.specs.Check.{Clash, holder, clashOf, clashAfter}
@@ -104,8 +105,8 @@ table =
 
 pub sessions : AllHold table
 unfolding table
-    linkAt pathsFrom paths linkVerdict walk packetVerdict linksVerdict packetsVerdict stopsAgree tables linkClaims claims placed takes conflict blocked
-    scan crossings firstFree greedyAfter greedy endOf routingTime load congestion dilation shared meetingsWith meetingsAfter meetings holder clashOf clashAfter entryStep entryAt lead
+    linkAt pathsFrom paths packetsOf packets delayOf travel linkVerdict walk packetVerdict linksVerdict packetsVerdict stopsAgree tables
+    linkClaims claimsOf claims placed takes conflict blocked scan crossings firstFree greedyAfter greedy endOf routingTime load congestion dilation shared meetingsWith meetingsAfter meetings holder clashOf clashAfter entryStep entryAt lead
     digits decimal fieldsText lineText valueAfter numberOf numbersOf split lineOf withLine withLines reading packetLines planText
     startsVerdict startedVerdict checked led answer printed plans
 sessions = (refl, (refl, (refl, (refl, (refl, (refl, (refl, (refl, (refl, (refl, (refl, (refl, (refl, (refl, (refl, tt)))))))))))))))

@@ -7,6 +7,7 @@ use lib.ListN.{length, drop}
 use lib.IntN.{ℤ}
 use Rattle.rules.specs.Sizes.{startMost}
 use Rattle.rules.specs.Network.{Job, paths}
+use Rattle.rules.specs.Travel.{delayIn}
 use Rattle.rules.specs.Outcome.{Outcome, is, refused, Verdict, fine, must, _then_, onward}
 use Rattle.rules.specs.Tables.{tables}
 use Rattle.rules.specs.Claims.{claims, placed}
@@ -45,7 +46,7 @@ checked j starts = startedVerdict j starts then is (clashAfter [] (placed starts
 
 -- the lead
 unfoldable pub led : Job → List ℕ → ℕ → ℕ → ℕ → Outcome ℤ
-led j starts a b link = startedVerdict j starts then lead starts (paths j) a b link
+led j starts a b link = startedVerdict j starts then lead (delayIn j) starts (paths j) a b link
 
 -- the text writer, with room for so many bytes
 unfoldable pub written : Job → List ℕ → ℕ → Outcome (List ℕ)

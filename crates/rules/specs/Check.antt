@@ -4,13 +4,14 @@ use mathlib.Core.Option.{Option, none, some}
 use Prim.Native.Nat.{ℕ, suc, _+_}
 use lib.ListN.{length}
 use Rattle.counting.specs.Count.{pick}
+use Rattle.rules.specs.Resource.{Resource}
 use Rattle.rules.specs.Claims.{Claim, Placed, takes}
 
 -- packet `later` conflicts with packet `earlier`, listed before it, on the resource (the link's number) in the step
 pub record Clash : Type 0 where
   pub later : ℕ
   pub earlier : ℕ
-  pub resource : ℕ
+  pub resource : Resource
   pub step : ℕ
 
 abbrev pub orElse : {A : Type 0} → Option A → Option A → Option A
@@ -18,15 +19,15 @@ orElse none o = o
 orElse (some a) o = some a
 
 -- the lowest-numbered of those placed, numbered from i, that takes the resource in the step
-unfoldable pub holder : ℕ → List Placed → ℕ → ℕ → Option ℕ
+unfoldable pub holder : ℕ → List Placed → Resource → ℕ → Option ℕ
 holder i [] resource step = none
 holder i (b ∷ bs) resource step = pick (takes b resource step) (some i) (holder (suc i) bs resource step)
 
-abbrev pub clashWith : ℕ → ℕ → ℕ → Option ℕ → Option Clash
+abbrev pub clashWith : ℕ → Resource → ℕ → Option ℕ → Option Clash
 clashWith k resource step none = none
 clashWith k resource step (some e) = some (record { later = k; earlier = e; resource = resource; step = step })
 
--- the first conflicting hop of packet k, started at s, with the lowest of those before it there
+-- the first conflicting claim of packet k, started at s, with the lowest of those before it there
 unfoldable pub clashOf : ℕ → List Placed → ℕ → List Claim → Option Clash
 clashOf k before s [] = none
 clashOf k before s (c ∷ cs) =

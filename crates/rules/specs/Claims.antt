@@ -1,24 +1,30 @@
--- Document 01, "The network and its steps": entry steps and conflict. A packet claims resources, each at an offset from its
--- start; here its claims are the links of its path at their hop positions. Plain.antt says the same without claims.
+-- Document 01, "The network and its steps": entry steps and conflict, to compute with. A packet claims resources, each at an
+-- offset from its start; `claimsOf` says which, and all else is over claims. Plain.antt says the same without claims.
 use mathlib.Core.Bool.{Bool, _&&_}
 use mathlib.Core.List.{List, [], _∷_, map}
-use Prim.Native.Nat.{ℕ, suc, _+_}
+use Prim.Native.Nat.{ℕ, _+_}
 use lib.Dec.{eqb}
 use Rattle.counting.specs.Count.{anyOf}
-use Rattle.rules.specs.Network.{Job, paths}
+use Rattle.rules.specs.Network.{Network, Packet, Job, packets}
+use Rattle.rules.specs.Travel.{delayOf}
+use Rattle.rules.specs.Resource.{Resource, same}
 
 pub record Claim : Type 0 where
-  pub resource : ℕ
+  pub resource : Resource
   pub offset : ℕ
 
--- the links of a path, the first at offset o, each next one step later
-unfoldable pub linkClaims : ℕ → List ℕ → List Claim
-linkClaims o [] = []
-linkClaims o (l ∷ ls) = record { resource = l; offset = o } ∷ linkClaims (suc o) ls
+-- the links of a path, the first at offset o, each next one a delay later
+unfoldable pub linkClaims : (ℕ → ℕ) → ℕ → List ℕ → List Claim
+linkClaims delay o [] = []
+linkClaims delay o (l ∷ ls) = record { resource = l; offset = o } ∷ linkClaims delay (o + delay l) ls
+
+-- what a packet claims, in the order in which a conflict is looked for: the links of its path
+unfoldable pub claimsOf : Network → Packet → List Claim
+claimsOf net p = linkClaims (delayOf net) 0 (p .path)
 
 -- what the packets of a job claim, in order
 unfoldable pub claims : Job → List (List Claim)
-claims j = map (linkClaims 0) (paths j)
+claims j = map (claimsOf (j .network)) (packets j)
 
 -- a packet's claims with its start
 pub record Placed : Type 0 where
@@ -34,12 +40,16 @@ placed [] rest = []
 placed (s ∷ ss) [] = []
 placed (s ∷ ss) (cs ∷ rest) = place s cs ∷ placed ss rest
 
+-- the same of packets, or paths, of which f says what each claims
+abbrev pub placedBy : {A : Type 0} → (A → List Claim) → List ℕ → List A → List Placed
+placedBy f ss xs = placed ss (map f xs)
+
 -- whether the placed packet takes the resource in the step
-unfoldable pub takes : Placed → ℕ → ℕ → Bool
-takes b resource step = anyOf (λ c. eqb (c .resource) resource && eqb (b .start + c .offset) step) (b .claimed)
+unfoldable pub takes : Placed → Resource → ℕ → Bool
+takes b resource step = anyOf (λ c. same (c .resource) resource && eqb (b .start + c .offset) step) (b .claimed)
 
 -- whether one of those placed takes the resource in the step
-unfoldable pub taken : List Placed → ℕ → ℕ → Bool
+unfoldable pub taken : List Placed → Resource → ℕ → Bool
 taken bs resource step = anyOf (λ b. takes b resource step) bs
 
 -- whether two placed packets take one resource in one step

@@ -5,16 +5,17 @@ use Prim.Native.Nat.{ℕ, _+_, max}
 use lib.ListN.{length}
 use Rattle.counting.specs.Count.{bit, among, sumOf, maxOf, hits, maxBelow}
 use Rattle.rules.specs.Network.{Job, paths}
+use Rattle.rules.specs.Travel.{delayIn, travel}
 
--- the end of a packet: its start and its hops
-unfoldable pub endOf : ℕ → List ℕ → ℕ
-endOf start path = start + length path
+-- the end of a packet: its start and the steps of its path
+unfoldable pub endOf : (ℕ → ℕ) → ℕ → List ℕ → ℕ
+endOf delay start path = start + travel delay path
 
 -- the greatest end, 0 without packets
-unfoldable pub routingTime : List ℕ → List (List ℕ) → ℕ
-routingTime [] ps = 0
-routingTime (s ∷ ss) [] = 0
-routingTime (s ∷ ss) (p ∷ ps) = max (endOf s p) (routingTime ss ps)
+unfoldable pub routingTime : (ℕ → ℕ) → List ℕ → List (List ℕ) → ℕ
+routingTime delay [] ps = 0
+routingTime delay (s ∷ ss) [] = 0
+routingTime delay (s ∷ ss) (p ∷ ps) = max (endOf delay s p) (routingTime delay ss ps)
 
 -- how many of the paths have the link
 unfoldable pub load : ℕ → List (List ℕ) → ℕ
@@ -27,9 +28,9 @@ linkCount j = length (j .network .origins)
 unfoldable pub congestion : Job → ℕ
 congestion j = maxBelow (λ link. load link (paths j)) (linkCount j)
 
--- D: the hops of the longest path, 0 without packets
+-- D: the steps of the longest path, 0 without packets
 unfoldable pub dilation : Job → ℕ
-dilation j = maxOf (λ p. length p) (paths j)
+dilation j = maxOf (travel (delayIn j)) (paths j)
 
 -- how many links below n are on both paths
 unfoldable pub shared : ℕ → List ℕ → List ℕ → ℕ

@@ -4,9 +4,9 @@ use mathlib.Core.Path.{_≡_}
 use mathlib.Core.Bool.{Bool, true, false}
 use mathlib.Core.List.{List, [], _∷_, _++_}
 use Prim.Native.Nat.{ℕ, zero, suc, _<_}
-use lib.Dec.{eqb}
 use Rattle.counting.specs.Count.{bit, sumOf}
 use Rattle.rules.specs.Network.{Job}
+use Rattle.rules.specs.Resource.{same}
 use Rattle.rules.specs.Claims.{Claim, claims, Placed, place, blocked}
 
 -- started at s the claims conflict with none of those placed, and at every smaller step with one
@@ -21,7 +21,7 @@ scan test (suc n) i = elim (test i) [ true ↦ scan test n (suc i) | false ↦ i
 
 -- how many pairs there are of one of the claims and a placed one of the same resource: each rules out one start at most
 unfoldable pub crossings : List Placed → List Claim → ℕ
-crossings bs cs = sumOf (λ b. sumOf (λ c. sumOf (λ d. bit (eqb (d .resource) (c .resource))) (b .claimed)) cs) bs
+crossings bs cs = sumOf (λ b. sumOf (λ c. sumOf (λ d. bit (same (d .resource) (c .resource))) (b .claimed)) cs) bs
 
 unfoldable pub firstFree : List Placed → List Claim → ℕ
 firstFree bs cs = scan (blocked bs cs) (crossings bs cs) 0

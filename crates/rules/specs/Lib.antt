@@ -2,6 +2,8 @@ pub mod Handed
 pub mod Sizes
 pub mod Network
 pub mod Path
+pub mod Travel
+pub mod Resource
 pub mod Outcome
 pub mod Tables
 pub mod Claims

@@ -40,3 +40,18 @@ pathsFrom a (stop ∷ stops) hops = slice a stop hops ∷ pathsFrom stop stops h
 -- the paths of a job's packets, in order: lists of link numbers
 unfoldable pub paths : Job → List (List ℕ)
 paths j = pathsFrom 0 (j .stops) (j .hops)
+
+-- a packet: the node it starts from, and the links of its path
+pub record Packet : Type 0 where
+  pub source : ℕ
+  pub path : List ℕ
+
+-- sources and paths, one of each
+unfoldable pub packetsOf : List ℕ → List (List ℕ) → List Packet
+packetsOf [] ps = []
+packetsOf (s ∷ ss) [] = []
+packetsOf (s ∷ ss) (p ∷ ps) = record { source = s; path = p } ∷ packetsOf ss ps
+
+-- the packets of a job, in order
+unfoldable pub packets : Job → List Packet
+packets j = packetsOf (j .sources) (paths j)

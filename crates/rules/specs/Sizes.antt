@@ -23,6 +23,10 @@ packetsMost = 1024
 abbrev pub pathMost : ℕ
 pathMost = 255
 
+-- steps from one hop to the next ("The network and its steps")
+abbrev pub delayMost : ℕ
+delayMost = 1
+
 -- hops of all paths together
 abbrev pub hopsMost : ℕ
 hopsMost = 16384

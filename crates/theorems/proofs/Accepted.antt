@@ -1,20 +1,24 @@
 -- The tables accept exactly the jobs of specs/Jobs.antt; and how many paths and hops such a job has.
 use mathlib.Core.Path.{_≡_, refl, sym, ap}
 use mathlib.Core.Bool.{true}
-use mathlib.Core.List.{List, [], _∷_, _++_, List·Memᴰ}
+use mathlib.Core.List.{List, [], _∷_, _++_, map, List·Memᴰ}
 use mathlib.Core.Logic.{_↔_, _⊎_, inl, inr, Iff·trans, Iff·rfl}
 use mathlib.Core.Option.{some}
 use Prim.Native.Nat.{ℕ, zero, suc, _+_, _≤_, _<_}
 use native.Mathlib.Omega.{arith}
-use lib.ListN.{length, getD, getElem?}
+use lib.ListN.{length, getD, getElem?, length-map}
 use lib.Seq.{length-slice}
 use Rattle.counting.specs.Count.{sumOf}
 use Rattle.counting.proofs.Places.{some-same, none-not-some, at-below, at-getD, at-snoc, mem-at}
-use Rattle.rules.specs.Network.{Network, Job, pathsFrom, paths}
+use Rattle.rules.specs.Network.{Network, Packet, Job, pathsFrom, paths, packets}
+use Rattle.rules.specs.Travel.{delayOf, delayIn}
+use Rattle.rules.specs.Claims.{linkClaims, claimsOf, claims}
 use Rattle.rules.specs.Outcome.{fine}
 use Rattle.rules.specs.Tables.{linkVerdict, packetVerdict, linksVerdict, packetsVerdict, stopsAgree, tables}
 use Rattle.theorems.specs.Jobs.{AtEach, IsLink, IsPacket, StopsFit, IsJob}
 use Rattle.theorems.proofs.Verdicts.{leb-iff, eqb-iff, and-iff, not-iff, must-iff, then-iff}
+use Rattle.theorems.proofs.Travels.{Delayed}
+use Rattle.theorems.proofs.Packets.{pathsOf, paths-of-packets}
 use Rattle.theorems.proofs.Paths.{walk-fine-iff}
 
 module _ {A B : Type 0} (P : A → B → Type 0) where
@@ -131,3 +135,25 @@ job-path j h m =
     let (k, e) = mem-at m in
     let l : k < length (j .sources) = omega (arith, at-below (paths j) k e, length-paths j, h .stops-count) in
     (getD (j .sources) k 0, h .packets k _ _ (at-getD (j .sources) k 0 l) e)
+
+-- its links take as many steps as links may
+pub job-delayed : (j : Job) → IsJob j → {path : List ℕ} → List·Memᴰ path (paths j) → Delayed (delayIn j) path
+unfolding delayOf
+job-delayed j h m l i = (omega arith, omega arith)
+
+-- and its packets are its paths, each with its source
+pub job-packet-paths : (j : Job) → IsJob j → pathsOf (packets j) ≡ paths j
+unfolding packets
+job-packet-paths j h = paths-of-packets (j .sources) (paths j) (omega (arith, length-paths j, h .stops-count))
+
+pub length-packets : (j : Job) → IsJob j → length (packets j) ≡ length (paths j)
+length-packets j h = omega (arith, ap length (job-packet-paths j h), length-map (packets j) (λ p. p .path))
+
+-- and what its packets claim is what the links of its paths do
+pub job-claims : (j : Job) → IsJob j → claims j ≡ map (linkClaims (delayIn j) 0) (paths j)
+unfolding claims claimsOf
+job-claims j h = rw (← job-packet-paths j h) (go (packets j))
+  where
+    go : (qs : List Packet) → map (λ (q : Packet). linkClaims (delayIn j) 0 (q .path)) qs ≡ map (linkClaims (delayIn j) 0) (pathsOf qs)
+    go [] = refl
+    go (q ∷ qs) = ap (λ r. linkClaims (delayIn j) 0 (q .path) ∷ r) (go qs)

@@ -12,6 +12,7 @@ use lib.Seq.{take-append-seam}
 use Rattle.counting.specs.Count.{anyOf, pick}
 use Rattle.counting.proofs.Tests.{never-both, any-mem}
 use Rattle.counting.proofs.Places.{some-same, none-not-some, at-below, at-mem, at-take, at-append-seam}
+use Rattle.rules.specs.Resource.{Resource, same}
 use Rattle.rules.specs.Claims.{Claim, Placed, takes, taken, blocked}
 use Rattle.rules.specs.Check.{Clash, orElse, holder, clashWith, clashOf, clashAfter}
 use Rattle.theorems.proofs.Conflicts.{takes-iff-claim, conflict-iff-both-take, blocked-taken}
@@ -32,12 +33,12 @@ found-or-else : {A : Type 0} (o p : Option A) → found (orElse o p) ≡ (found 
 found-or-else none p = refl
 found-or-else (some a) p = refl
 
-found-clash-with : (k r t : ℕ) (o : Option ℕ) → found (clashWith k r t o) ≡ found o
+found-clash-with : (k : ℕ) (r : Resource) (t : ℕ) (o : Option ℕ) → found (clashWith k r t o) ≡ found o
 found-clash-with k r t none = refl
 found-clash-with k r t (some e) = refl
 
 -- there is a holder exactly if the resource is taken
-pub found-holder : (i : ℕ) (bs : List Placed) (resource step : ℕ) → found (holder i bs resource step) ≡ taken bs resource step
+pub found-holder : (i : ℕ) (bs : List Placed) (resource : Resource) (step : ℕ) → found (holder i bs resource step) ≡ taken bs resource step
 unfolding holder taken
 found-holder i [] r t = refl
 found-holder i (b ∷ bs) r t = rw (found-pick, found-holder (suc i) bs r t)
@@ -57,14 +58,14 @@ above-suc P first rest zero p = absurd (first p)
 above-suc P first rest (suc m) p = omega (arith, rest m p)
 
 -- packet j takes the resource in the step
-abbrev pub Holds : List Placed → ℕ → ℕ → ℕ → Type 0
+abbrev pub Holds : List Placed → Resource → ℕ → ℕ → Type 0
 Holds bs resource step j = (b : Placed) × (getElem? bs j ≡ some b) × (takes b resource step ≡ true)
 
 -- packet e, counted from i, takes the resource, and none before it does
-abbrev IsHolder : List Placed → ℕ → ℕ → ℕ → ℕ → Type 0
+abbrev IsHolder : List Placed → Resource → ℕ → ℕ → ℕ → Type 0
 IsHolder bs resource step i e = (j : ℕ) × (i + j ≡ e) × Holds bs resource step j × ((m : ℕ) → Holds bs resource step m → j ≤ m)
 
-holder-from : (i : ℕ) (bs : List Placed) (resource step : ℕ) {e : ℕ} → holder i bs resource step ≡ some e → IsHolder bs resource step i e
+holder-from : (i : ℕ) (bs : List Placed) (resource : Resource) (step : ℕ) {e : ℕ} → holder i bs resource step ≡ some e → IsHolder bs resource step i e
 unfolding holder
 holder-from i [] r t h = absurd (none-not-some h)
 holder-from i (b ∷ bs) r t {e} h = go (takes b r t) refl h (holder-from (suc i) bs r t)
@@ -76,7 +77,7 @@ holder-from i (b ∷ bs) r t {e} h = go (takes b r t) refl h (holder-from (suc i
         (suc (l .0), omega arith, l .2, above-suc (Holds (b ∷ bs) r t) (λ p. never-both (takes b r t) (rw (some-same (p .1)) (p .2)) q) (l .3))
 
 -- the holder is the lowest packet that takes the resource
-pub holder-lowest : (bs : List Placed) (resource step : ℕ) {e : ℕ} → holder 0 bs resource step ≡ some e → Holds bs resource step e × ((m : ℕ) → Holds bs resource step m → e ≤ m)
+pub holder-lowest : (bs : List Placed) (resource : Resource) (step : ℕ) {e : ℕ} → holder 0 bs resource step ≡ some e → Holds bs resource step e × ((m : ℕ) → Holds bs resource step m → e ≤ m)
 holder-lowest bs r t {e} q =
     let l = holder-from 0 bs r t q in
     let same : l .0 ≡ e = omega arith in
@@ -101,7 +102,7 @@ unfolding clashOf
 clash-of-first k before s [] q = absurd (none-not-some q)
 clash-of-first k before s (c ∷ cs) {x} q = go (holder 0 before r t) refl q (clash-of-first k before s cs)
   where
-    r : ℕ
+    r : Resource
     r = c .resource
 
     t : ℕ
@@ -115,21 +116,21 @@ clash-of-first k before s (c ∷ cs) {x} q = go (holder 0 before r t) refl q (cl
     go none p q rest = let l = rest q in (suc (l .0), l .1, l .2, l .3, above-suc (TakenClaim before s (c ∷ cs)) (free p) (l .4))
 
 -- packet k and packet e, listed before it, take the resource in the step
-abbrev pub ConflictOn : List Placed → ℕ → ℕ → ℕ → ℕ → Type 0
+abbrev pub ConflictOn : List Placed → ℕ → ℕ → Resource → ℕ → Type 0
 ConflictOn bs k e resource step = (e < k) × Holds bs resource step k × Holds bs resource step e
 
 -- that packet is among those before packet k
-conflict-before : (bs : List Placed) (k e r t : ℕ) (m : ConflictOn bs k e r t) → List·Memᴰ (m .2 .0) (take k bs)
+conflict-before : (bs : List Placed) (k e : ℕ) (r : Resource) (t : ℕ) (m : ConflictOn bs k e r t) → List·Memᴰ (m .2 .0) (take k bs)
 conflict-before bs k e r t m = at-mem (take k bs) e (at-take bs k e (m .0) ∙ m .2 .1)
 
-conflict-blocked : (bs : List Placed) (k e r t : ℕ) {b : Placed} → getElem? bs k ≡ some b → ConflictOn bs k e r t → blocked (take k bs) (b .claimed) (b .start) ≡ true
+conflict-blocked : (bs : List Placed) (k e : ℕ) (r : Resource) (t : ℕ) {b : Placed} → getElem? bs k ≡ some b → ConflictOn bs k e r t → blocked (take k bs) (b .claimed) (b .start) ≡ true
 unfolding blocked
 conflict-blocked bs k e r t q m =
     any-mem _ (conflict-before bs k e r t m) (conflict-iff-both-take _ _ .1 (r, t, rw (some-same (sym q ∙ m .1 .1)) (m .1 .2), m .2 .2))
 
 -- packet k conflicts with one before it
 abbrev Conflicting : List Placed → ℕ → Type 0
-Conflicting bs k = (e r t : ℕ) × ConflictOn bs k e r t
+Conflicting bs k = (e : ℕ) × (r : Resource) × (t : ℕ) × ConflictOn bs k e r t
 
 -- the clash of the lowest packet from n on that conflicts with one before it
 abbrev Lowest : List Placed → ℕ → Option Clash → Type 0
@@ -185,7 +186,7 @@ pub record Seen (bs : List Placed) (x : Clash) : Type 0 where
   pub is-resource : claim .resource ≡ x .resource
   pub is-step : packet .start + claim .offset ≡ x .step
   pub conflict : ConflictOn bs (x .later) (x .earlier) (x .resource) (x .step)
-  pub lowest : (k e r t : ℕ) → ConflictOn bs k e r t → x .later ≤ k
+  pub lowest : (k e : ℕ) (r : Resource) (t : ℕ) → ConflictOn bs k e r t → x .later ≤ k
   pub first : (h : ℕ) (c : Claim) (e : ℕ) → getElem? (packet .claimed) h ≡ some c → ConflictOn bs (x .later) e (c .resource) (packet .start + c .offset) → at ≤ h
   pub lowest-there : (e : ℕ) → ConflictOn bs (x .later) e (x .resource) (x .step) → x .earlier ≤ e
 
@@ -216,9 +217,9 @@ clash-seen bs {x} q =
     let f : Lowest bs 0 (some x) = rw q at (clash-after bs [] bs refl) in
     seen bs (f .0) (f .1) (f .2) (clash-of-first _ _ _ _ (f .3)) (f .4)
 
-pub clear-iff-no-conflict : (bs : List Placed) → (clashAfter [] bs ≡ none) ↔ ((k e r t : ℕ) → ConflictOn bs k e r t → ⊥)
+pub clear-iff-no-conflict : (bs : List Placed) → (clashAfter [] bs ≡ none) ↔ ((k e : ℕ) (r : Resource) (t : ℕ) → ConflictOn bs k e r t → ⊥)
 clear-iff-no-conflict bs = (λ q k e r t m. (rw q at (clash-after bs [] bs refl)) k (omega arith) (e, r, t, m), go (clashAfter [] bs) refl)
   where
-    go : (o : Option Clash) → clashAfter [] bs ≡ o → ((k e r t : ℕ) → ConflictOn bs k e r t → ⊥) → clashAfter [] bs ≡ none
+    go : (o : Option Clash) → clashAfter [] bs ≡ o → ((k e : ℕ) (r : Resource) (t : ℕ) → ConflictOn bs k e r t → ⊥) → clashAfter [] bs ≡ none
     go none q f = q
     go (some x) q f = absurd (f _ _ _ _ (clash-seen bs q .conflict))

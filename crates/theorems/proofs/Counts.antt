@@ -5,20 +5,21 @@ use mathlib.Core.List.{List, [], _∷_, List·Memᴰ}
 use mathlib.Core.Option.{some}
 use Prim.Native.Nat.{ℕ, zero, suc, _≤_, _<_}
 use native.Mathlib.Omega.{arith}
-use lib.ListN.{length, getElem?}
+use lib.ListN.{getElem?}
 use Rattle.counting.proofs.Sums.{le-max, max-le}
 use Rattle.counting.proofs.Hits.{le-max-below, max-below-le}
 use Rattle.counting.proofs.Places.{some-same, none-not-some}
 use Rattle.rules.specs.Network.{Job, paths}
+use Rattle.rules.specs.Travel.{delayIn, travel}
 use Rattle.rules.specs.Counts.{endOf, routingTime, load, linkCount, congestion, dilation}
 
 -- no packet ends after the routing time
-pub end-le-routing-time : (ss : List ℕ) (ps : List (List ℕ)) (k : ℕ) {s : ℕ} {p : List ℕ} → getElem? ss k ≡ some s → getElem? ps k ≡ some p → endOf s p ≤ routingTime ss ps
+pub end-le-routing-time : (delay : ℕ → ℕ) (ss : List ℕ) (ps : List (List ℕ)) (k : ℕ) {s : ℕ} {p : List ℕ} → getElem? ss k ≡ some s → getElem? ps k ≡ some p → endOf delay s p ≤ routingTime delay ss ps
 unfolding routingTime
-end-le-routing-time [] ps k e f = absurd (none-not-some e)
-end-le-routing-time (t ∷ ss) [] k e f = absurd (none-not-some f)
-end-le-routing-time (t ∷ ss) (q ∷ ps) zero e f = rw (← some-same e, ← some-same f) (omega arith)
-end-le-routing-time (t ∷ ss) (q ∷ ps) (suc k) e f = omega (arith, end-le-routing-time ss ps k e f)
+end-le-routing-time delay [] ps k e f = absurd (none-not-some e)
+end-le-routing-time delay (t ∷ ss) [] k e f = absurd (none-not-some f)
+end-le-routing-time delay (t ∷ ss) (q ∷ ps) zero e f = rw (← some-same e, ← some-same f) (omega arith)
+end-le-routing-time delay (t ∷ ss) (q ∷ ps) (suc k) e f = omega (arith, end-le-routing-time delay ss ps k e f)
 
 module _ (j : Job) where
   -- no link is on more paths than C
@@ -30,11 +31,11 @@ module _ (j : Job) where
   unfolding congestion
   congestion-least = max-below-le (λ link. load link (paths j)) (linkCount j)
 
-  -- no path has more hops than D
-  pub hops-le-dilation : {p : List ℕ} → List·Memᴰ p (paths j) → length p ≤ dilation j
+  -- no path takes more steps than D
+  pub travel-le-dilation : {p : List ℕ} → List·Memᴰ p (paths j) → travel (delayIn j) p ≤ dilation j
   unfolding dilation
-  hops-le-dilation m = le-max (λ p. length p) m
+  travel-le-dilation m = le-max (travel (delayIn j)) m
 
-  pub dilation-least : (m : ℕ) → ((p : List ℕ) → List·Memᴰ p (paths j) → length p ≤ m) → dilation j ≤ m
+  pub dilation-least : (m : ℕ) → ((p : List ℕ) → List·Memᴰ p (paths j) → travel (delayIn j) p ≤ m) → dilation j ≤ m
   unfolding dilation
-  dilation-least = max-le (λ p. length p) (paths j)
+  dilation-least = max-le (travel (delayIn j)) (paths j)

@@ -13,12 +13,13 @@ use Rattle.counting.specs.Count.{bit, anyOf, hits}
 use Rattle.counting.proofs.Tests.{never-both, false-of-not-true}
 use Rattle.counting.proofs.Sums.{sum-le}
 use Rattle.counting.proofs.Hits.{sum-below-zero, hits-all, hits-once, hits-any}
+use Rattle.rules.specs.Resource.{same}
 use Rattle.rules.specs.Claims.{Claim, Placed, takes, conflict, blocked}
 use Rattle.rules.specs.Greedy.{FirstFree, scan, crossings, firstFree}
 
 -- one claim against one that is placed rules out one start at most, and none if the resources differ
-hits-pair : (c d : Claim) (t n : ℕ) → hits (λ s. eqb (d .resource) (c .resource) && eqb (t + d .offset) (s + c .offset)) n ≤ bit (eqb (d .resource) (c .resource))
-hits-pair c d t n = go (eqb (d .resource) (c .resource))
+hits-pair : (c d : Claim) (t n : ℕ) → hits (λ s. same (d .resource) (c .resource) && eqb (t + d .offset) (s + c .offset)) n ≤ bit (same (d .resource) (c .resource))
+hits-pair c d t n = go (same (d .resource) (c .resource))
   where
     go : (b : Bool) → hits (λ s. b && eqb (t + d .offset) (s + c .offset)) n ≤ bit b
     go true = hits-once (λ s. eqb (t + d .offset) (s + c .offset)) (λ i j p q. omega (arith, eqb-true)) n
@@ -28,7 +29,7 @@ hits-pair c d t n = go (eqb (d .resource) (c .resource))
 hits-blocked : (bs : List Placed) (cs : List Claim) (n : ℕ) → hits (blocked bs cs) n ≤ crossings bs cs
 unfolding blocked conflict takes crossings
 hits-blocked bs cs n =
-    let pair : Placed → Claim → Claim → ℕ → Bool = λ b c d s. eqb (d .resource) (c .resource) && eqb (b .start + d .offset) (s + c .offset) in
+    let pair : Placed → Claim → Claim → ℕ → Bool = λ b c d s. same (d .resource) (c .resource) && eqb (b .start + d .offset) (s + c .offset) in
     le-trans (hits-any (λ b s. anyOf (λ c. anyOf (λ d. pair b c d s) (b .claimed)) cs) bs n)
     (sum-le _ _ bs (λ b m.
     le-trans (hits-any (λ c s. anyOf (λ d. pair b c d s) (b .claimed)) cs n)

@@ -8,7 +8,7 @@ use mathlib.Core.Logic.{_↔_, _≢_, _⊎_, inl, inr, ⊎-elim, ⊎-map, Iff·t
 use Prim.Native.Nat.{ℕ, zero, suc, _+_, _-_, _≤_}
 use native.Mathlib.Omega.{arith}
 use lib.Dec.{eqb, ltb}
-use lib.ListN.{length, getElem?}
+use lib.ListN.{length, take, getElem?}
 use lib.IntN.{ℤ, pos, negsuc, negℤ, natAbs, _+ℤ_, _-ℤ_, +ℤ-invr, +ℤ-comm, negℤ-+ℤ, negℤ-negℤ, -ℤ-+ℤ-cancel}
 use borrow.Author.Tests.{eqb-true, eq-eqb, ne-eqb, ltb-true}
 use Rattle.counting.specs.Count.{pick}
@@ -17,58 +17,64 @@ use Rattle.counting.proofs.Places.{some-same, none-not-some, at-below, at-mem}
 use Rattle.counting.proofs.Distinct.{Distinct, distinct-tail}
 use Rattle.rules.specs.Sizes.{startMost, pathMost, leadMost}
 use Rattle.rules.specs.Network.{Job, linkAt, pathsFrom, paths}
+use Rattle.rules.specs.Travel.{delayOf, travel}
 use Rattle.rules.specs.Outcome.{is, refused, must, _then_, onward}
 use Rattle.rules.specs.Tables.{linkVerdict, walk, packetVerdict, linksVerdict, packetsVerdict, stopsAgree, tables}
 use Rattle.rules.specs.Lead.{entryStep, leadOf, entryOf, entryAt, lead}
 use Rattle.rules.specs.Answers.{startsVerdict, startedVerdict, led}
 use Rattle.rules.specs.Plain.{Enters, EntersAt}
 use Rattle.theorems.proofs.Verdicts.{refused-not-is}
+use Rattle.theorems.proofs.Travels.{Delayed, travel-take-le}
 
 -- where there is an entry step, the packet enters the link in it
-pub entry-enters : (link s : ℕ) (path : List ℕ) (t : ℕ) → entryStep link s path ≡ some t → Enters s path link t
-unfolding entryStep
-entry-enters link s [] t e = absurd (none-not-some e)
-entry-enters link s (l ∷ ls) t e = go (eqb l link) refl e (entry-enters link (suc s) ls t)
+pub entry-enters : (delay : ℕ → ℕ) (link s : ℕ) (path : List ℕ) (t : ℕ) → entryStep delay link s path ≡ some t → (hop : ℕ) × Enters delay s path hop link t
+unfolding entryStep travel
+entry-enters delay link s [] t e = absurd (none-not-some e)
+entry-enters delay link s (l ∷ ls) t e = go (eqb l link) refl e (entry-enters delay link (s + delay l) ls t)
   where
-    go : (b : Bool) → eqb l link ≡ b → pick b (some s) (entryStep link (suc s) ls) ≡ some t → (entryStep link (suc s) ls ≡ some t → Enters (suc s) ls link t) → Enters s (l ∷ ls) link t
-    go true q e r = record { hop = 0; there = ap some (eqb-true l link q); then-step = omega (arith, some-same e) }
-    go false q e r = let later = r e in record { hop = suc (later .hop); there = later .there; then-step = omega (arith, later .then-step) }
+    go : (b : Bool) → eqb l link ≡ b → pick b (some s) (entryStep delay link (s + delay l) ls) ≡ some t
+        → (entryStep delay link (s + delay l) ls ≡ some t → (hop : ℕ) × Enters delay (s + delay l) ls hop link t) → (hop : ℕ) × Enters delay s (l ∷ ls) hop link t
+    go true q e r = (0, record { there = ap some (eqb-true l link q); then-step = omega (arith, some-same e) })
+    go false q e r = let (hop, later) = r e in (suc hop, record { there = later .there; then-step = omega (arith, later .then-step) })
 
 -- and if no link stands twice on the path, it is the one step in which the packet enters the link
-entry-of-hop : (link s : ℕ) (path : List ℕ) (hop : ℕ) → Distinct path → getElem? path hop ≡ some link → entryStep link s path ≡ some (s + hop)
-unfolding entryStep
-entry-of-hop link s [] hop d e = absurd (none-not-some e)
-entry-of-hop link s (l ∷ ls) zero d e = rw (eq-eqb l link (some-same e)) (ap some (omega arith))
-entry-of-hop link s (l ∷ ls) (suc hop) d e =
+entry-of-hop : (delay : ℕ → ℕ) (link s : ℕ) (path : List ℕ) (hop : ℕ) → Distinct path → getElem? path hop ≡ some link → entryStep delay link s path ≡ some (s + travel delay (take hop path))
+unfolding entryStep travel
+entry-of-hop delay link s [] hop d e = absurd (none-not-some e)
+entry-of-hop delay link s (l ∷ ls) zero d e = rw (eq-eqb l link (some-same e)) (ap some (omega arith))
+entry-of-hop delay link s (l ∷ ls) (suc hop) d e =
     let other : l ≢ link = λ q. omega (arith, d 0 (suc hop) link (ap {B = Option ℕ} some q) e) in
-    rw (ne-eqb l link other) (entry-of-hop link (suc s) ls hop (distinct-tail l ls d) e ∙ ap some (omega arith))
+    rw (ne-eqb l link other) (entry-of-hop delay link (s + delay l) ls hop (distinct-tail l ls d) e ∙ ap some (omega arith))
 
-pub enters-entry : (link s : ℕ) (path : List ℕ) {t : ℕ} → Distinct path → Enters s path link t → entryStep link s path ≡ some t
-enters-entry link s path d e = entry-of-hop link s path (e .hop) d (e .there) ∙ ap {B = Option ℕ} some (e .then-step)
+pub enters-entry : (delay : ℕ → ℕ) (link s : ℕ) (path : List ℕ) (hop : ℕ) {t : ℕ} → Distinct path → Enters delay s path hop link t → entryStep delay link s path ≡ some t
+enters-entry delay link s path hop d e = entry-of-hop delay link s path hop d (e .there) ∙ ap {B = Option ℕ} some (e .then-step)
 
-pub entry-at-enters : (starts : List ℕ) (ps : List (List ℕ)) (link k : ℕ) {x : ℕ} → entryAt starts ps link k ≡ some x → EntersAt ps starts k link x
+pub entry-at-enters : (delay : ℕ → ℕ) (starts : List ℕ) (ps : List (List ℕ)) (link k : ℕ) {x : ℕ} → entryAt delay starts ps link k ≡ some x → EntersAt delay ps starts k link x
 unfolding entryAt
-entry-at-enters starts ps link k {x} e = go (getElem? starts k) (getElem? ps k) refl refl e
+entry-at-enters delay starts ps link k {x} e = go (getElem? starts k) (getElem? ps k) refl refl e
   where
-    go : (s : Option ℕ) (p : Option (List ℕ)) → getElem? starts k ≡ s → getElem? ps k ≡ p → entryOf link s p ≡ some x → EntersAt ps starts k link x
+    go : (s : Option ℕ) (p : Option (List ℕ)) → getElem? starts k ≡ s → getElem? ps k ≡ p → entryOf delay link s p ≡ some x → EntersAt delay ps starts k link x
     go none p f g e = absurd (none-not-some e)
     go (some s) none f g e = absurd (none-not-some e)
-    go (some s) (some p) f g e = record { start = s; path = p; is-start = f; is-path = g; enters = entry-enters link s p x e }
+    go (some s) (some p) f g e = let (hop, enters) = entry-enters delay link s p x e in record { start = s; path = p; is-start = f; is-path = g; hop = hop; enters = enters }
 
-pub enters-at-entry : (starts : List ℕ) (ps : List (List ℕ)) (link k : ℕ) {x : ℕ} → ((p : List ℕ) → List·Memᴰ p ps → Distinct p) → EntersAt ps starts k link x → entryAt starts ps link k ≡ some x
+pub enters-at-entry : (delay : ℕ → ℕ) (starts : List ℕ) (ps : List (List ℕ)) (link k : ℕ) {x : ℕ} → ((p : List ℕ) → List·Memᴰ p ps → Distinct p) → EntersAt delay ps starts k link x → entryAt delay starts ps link k ≡ some x
 unfolding entryAt
-enters-at-entry starts ps link k d e = rw (e .is-start, e .is-path) (enters-entry link (e .start) (e .path) (d (e .path) (at-mem ps k (e .is-path))) (e .enters))
+enters-at-entry delay starts ps link k d e =
+    rw (e .is-start, e .is-path) (enters-entry delay link (e .start) (e .path) (e .hop) (d (e .path) (at-mem ps k (e .is-path))) (e .enters))
 
 -- the last hop of the longest path after the latest start
-entry-at-le : (starts : List ℕ) (ps : List (List ℕ)) (link k : ℕ) {x : ℕ} → ((s : ℕ) → List·Memᴰ s starts → s ≤ startMost)
-    → ((p : List ℕ) → List·Memᴰ p ps → length p ≤ pathMost) → entryAt starts ps link k ≡ some x → x ≤ leadMost
-entry-at-le starts ps link k f g e =
-    let r = entry-at-enters starts ps link k e in
+entry-at-le : (delay : ℕ → ℕ) (starts : List ℕ) (ps : List (List ℕ)) (link k : ℕ) {x : ℕ} → ((s : ℕ) → List·Memᴰ s starts → s ≤ startMost)
+    → ((p : List ℕ) → List·Memᴰ p ps → (length p ≤ pathMost) × Delayed delay p) → entryAt delay starts ps link k ≡ some x → x ≤ leadMost
+entry-at-le delay starts ps link k f g e =
+    let r = entry-at-enters delay starts ps link k e in
+    let (short, delayed) = g (r .path) (at-mem ps k (r .is-path)) in
     omega (
       arith,
       f (r .start) (at-mem starts k (r .is-start)),
-      g (r .path) (at-mem ps k (r .is-path)),
-      at-below (r .path) (r .enters .hop) (r .enters .there),
+      short,
+      travel-take-le delay (r .path) (r .hop) delayed,
+      at-below (r .path) (r .hop) (r .enters .there),
       r .enters .then-step,
     )
 
@@ -89,17 +95,17 @@ abs-sub-le x (suc y) n h l = go (ltb x (suc y)) refl
     go false e = omega arith
 
 -- no lead is below −33,021 or above 33,021
-pub lead-in-range : (starts : List ℕ) (ps : List (List ℕ)) → ((s : ℕ) → List·Memᴰ s starts → s ≤ startMost)
-    → ((p : List ℕ) → List·Memᴰ p ps → length p ≤ pathMost) → (a b link : ℕ) (z : ℤ) → lead starts ps a b link ≡ is z → natAbs z ≤ leadMost
+pub lead-in-range : (delay : ℕ → ℕ) (starts : List ℕ) (ps : List (List ℕ)) → ((s : ℕ) → List·Memᴰ s starts → s ≤ startMost)
+    → ((p : List ℕ) → List·Memᴰ p ps → (length p ≤ pathMost) × Delayed delay p) → (a b link : ℕ) (z : ℤ) → lead delay starts ps a b link ≡ is z → natAbs z ≤ leadMost
 unfolding lead
-lead-in-range starts ps f g a b link z e =
+lead-in-range delay starts ps f g a b link z e =
     let (x, y, p, q, d) = lead-of-entries (not (eqb a b)) _ _ z e in
-    rw (← d) (abs-sub-le x y leadMost (entry-at-le starts ps link a f g p) (entry-at-le starts ps link b f g q))
+    rw (← d) (abs-sub-le x y leadMost (entry-at-le delay starts ps link a f g p) (entry-at-le delay starts ps link b f g q))
 
 -- there is none exactly if the two packets are one, or one of the two has no entry step
-pub no-lead-iff : (starts : List ℕ) (ps : List (List ℕ)) (a b link : ℕ) → (lead starts ps a b link ≡ refused 13 0) ↔ ((a ≡ b) ⊎ ((entryAt starts ps link a ≡ none) ⊎ (entryAt starts ps link b ≡ none)))
+pub no-lead-iff : (delay : ℕ → ℕ) (starts : List ℕ) (ps : List (List ℕ)) (a b link : ℕ) → (lead delay starts ps a b link ≡ refused 13 0) ↔ ((a ≡ b) ⊎ ((entryAt delay starts ps link a ≡ none) ⊎ (entryAt delay starts ps link b ≡ none)))
 unfolding lead
-no-lead-iff starts ps a b link = Iff·trans (go (eqb a b) _ _) (⊎-map (eqb-true a b) (λ h. h), ⊎-map (eq-eqb a b) (λ h. h))
+no-lead-iff delay starts ps a b link = Iff·trans (go (eqb a b) _ _) (⊎-map (eqb-true a b) (λ h. h), ⊎-map (eq-eqb a b) (λ h. h))
   where
     go : (t : Bool) (m n : Option ℕ) → (must (not t) 13 0 then leadOf m n ≡ refused 13 0) ↔ ((t ≡ true) ⊎ ((m ≡ none) ⊎ (n ≡ none)))
     go true m n = (λ e. inl refl, λ h. refl)
@@ -124,9 +130,9 @@ lead-of-opposite true (some x) (some y) = ap is (sym (sub-opposite x y))
 lead-of-opposite false m n = refl
 
 -- the lead of b over a is the opposite of that of a over b, and refused where that is
-pub lead-opposite : (starts : List ℕ) (ps : List (List ℕ)) (a b link : ℕ) → lead starts ps b a link ≡ onward (lead starts ps a b link) (λ z. is (negℤ z))
+pub lead-opposite : (delay : ℕ → ℕ) (starts : List ℕ) (ps : List (List ℕ)) (a b link : ℕ) → lead delay starts ps b a link ≡ onward (lead delay starts ps a b link) (λ z. is (negℤ z))
 unfolding lead
-lead-opposite starts ps a b link = rw (eqb-comm b a) (lead-of-opposite (not (eqb a b)) (entryAt starts ps link a) (entryAt starts ps link b))
+lead-opposite delay starts ps a b link = rw (eqb-comm b a) (lead-of-opposite (not (eqb a b)) (entryAt delay starts ps link a) (entryAt delay starts ps link b))
 
 -- the numbers i, i + 1, .., n of them
 abbrev pub upFrom : ℕ → ℕ → List ℕ
@@ -145,5 +151,5 @@ longLine =
 
 -- an accepted job with the greatest lead and the least
 pub lead-ends-reached : (led longLine (32767 ∷ 0 ∷ []) 0 1 254 ≡ is (pos 33021)) × (led longLine (32767 ∷ 0 ∷ []) 1 0 254 ≡ is (negsuc 33020))
-unfolding longLine linkAt pathsFrom paths linkVerdict walk packetVerdict linksVerdict packetsVerdict stopsAgree tables entryStep entryAt lead startsVerdict startedVerdict led
+unfolding longLine linkAt delayOf pathsFrom paths linkVerdict walk packetVerdict linksVerdict packetsVerdict stopsAgree tables entryStep entryAt lead startsVerdict startedVerdict led
 lead-ends-reached = (refl, refl)

@@ -9,8 +9,7 @@ use native.Mathlib.Omega.{arith}
 use native.Mathlib.Nat.{suc-inj}
 use lib.ListN.{length, getElem?}
 use lib.Seq.{append-snoc}
-use Rattle.counting.specs.Count.{among}
-use Rattle.counting.proofs.Hits.{occurs}
+use Rattle.counting.specs.Count.{among, occurs}
 use Rattle.counting.proofs.Places.{some-same, none-not-some, at-below, at-getD, mem-at}
 use Rattle.counting.proofs.Distinct.{Distinct, distinct-snoc, distinct-new, distinct-occurs}
 use Rattle.rules.specs.Network.{Network, linkOf, linkAt}

@@ -8,11 +8,13 @@ use Rattle.counting.specs.Count.{bit, among, sumBelow}
 use Rattle.counting.proofs.Sums.{bit-le-one, sum-le, sum-const}
 use Rattle.counting.proofs.Hits.{sum-below-mono}
 use Rattle.counting.proofs.Places.{at-mem}
-use Rattle.rules.specs.Sizes.{packetsMost, pathMost, startMost, planMost}
+use Rattle.rules.specs.Sizes.{packetsMost, delayMost, pathMost, startMost, planMost}
 use Rattle.rules.specs.Network.{Job, paths}
+use Rattle.rules.specs.Travel.{delayIn, travel}
 use Rattle.rules.specs.Counts.{endOf, routingTime, load, congestion, dilation}
 use Rattle.rules.specs.Bytes.{letterS, letterT, digits, decimal, fieldsText, lineText}
 use Rattle.rules.specs.PlanText.{packetLines, planText}
+use Rattle.theorems.proofs.Travels.{Delayed, travel-le-hops}
 use Rattle.theorems.proofs.Bounds.{routing-time-le}
 use Rattle.theorems.proofs.Counts.{congestion-least, dilation-least}
 use Rattle.theorems.proofs.Numbers.{decimal-length-le}
@@ -37,30 +39,33 @@ line-length letter a b c = simp length-append (omega arith)
 abbrev StartsFit : List ℕ → Type 0
 StartsFit starts = (s : ℕ) → List·Memᴰ s starts → s ≤ startMost
 
-abbrev PathsFit : List (List ℕ) → Type 0
-PathsFit ps = (p : List ℕ) → List·Memᴰ p ps → length p ≤ pathMost
+abbrev PathsFit : (ℕ → ℕ) → List (List ℕ) → Type 0
+PathsFit delay ps = (p : List ℕ) → List·Memᴰ p ps → (length p ≤ pathMost) × Delayed delay p
 
 -- beside the digits of its packet number a line has at most 15 bytes
-lines-length-le : (k m : ℕ) (ss : List ℕ) (ps : List (List ℕ)) → StartsFit ss → PathsFit ps → k + length ss ≤ m
-    → digitsBelow k + length (packetLines k ss ps) ≤ 15 * length ss + digitsBelow m
+lines-length-le : (delay : ℕ → ℕ) (k m : ℕ) (ss : List ℕ) (ps : List (List ℕ)) → StartsFit ss → PathsFit delay ps → k + length ss ≤ m
+    → digitsBelow k + length (packetLines delay k ss ps) ≤ 15 * length ss + digitsBelow m
 unfolding digitsBelow packetLines endOf
-lines-length-le k m [] ps f g h = omega (arith, digits-below-mono k m (omega arith))
-lines-length-le k m (s ∷ ss) [] f g h = omega (arith, digits-below-mono k m (omega arith))
-lines-length-le k m (s ∷ ss) (p ∷ ps) f g h =
+lines-length-le delay k m [] ps f g h = omega (arith, digits-below-mono k m (omega arith))
+lines-length-le delay k m (s ∷ ss) [] f g h = omega (arith, digits-below-mono k m (omega arith))
+lines-length-le delay k m (s ∷ ss) (p ∷ ps) f g h =
     let a = f s (here refl) in
-    let b = g p (here refl) in
+    let (short, delayed) = g p (here refl) in
+    let b = travel-le-hops delay p delayed in
     omega (
       arith,
-      length-append (lineText letterS (k ∷ s ∷ (s + length p) ∷ [])) (packetLines (suc k) ss ps),
-      line-length letterS k s (s + length p),
+      length-append (lineText letterS (k ∷ s ∷ (s + travel delay p) ∷ [])) (packetLines delay (suc k) ss ps),
+      line-length letterS k s (s + travel delay p),
       decimal-length-le 4 s (omega arith),
-      decimal-length-le 4 (s + length p) (omega arith),
-      lines-length-le (suc k) m ss ps (λ t i. f t (there i)) (λ q i. g q (there i)) (omega arith),
+      decimal-length-le 4 (s + travel delay p) (omega arith),
+      lines-length-le delay (suc k) m ss ps (λ t i. f t (there i)) (λ q i. g q (there i)) (omega arith),
     )
 
-ends-le : (ss : List ℕ) (ps : List (List ℕ)) → StartsFit ss → PathsFit ps → routingTime ss ps ≤ startMost + pathMost
+ends-le : (delay : ℕ → ℕ) (ss : List ℕ) (ps : List (List ℕ)) → StartsFit ss → PathsFit delay ps → routingTime delay ss ps ≤ startMost + delayMost * pathMost
 unfolding endOf
-ends-le ss ps f g = routing-time-le ss ps (startMost + pathMost) (λ k s p e h. omega (arith, f s (at-mem ss k e), g p (at-mem ps k h)))
+ends-le delay ss ps f g =
+    routing-time-le delay ss ps (startMost + delayMost * pathMost)
+    (λ k s p e h. let (short, delayed) = g p (at-mem ps k h) in omega (arith, f s (at-mem ss k e), short, travel-le-hops delay p delayed))
 
 pub load-le : (link : ℕ) (ps : List (List ℕ)) → load link ps ≤ length ps
 unfolding load
@@ -71,17 +76,17 @@ pub congestion-le : (j : Job) → congestion j ≤ length (paths j)
 congestion-le j = congestion-least j (length (paths j)) (λ link l. load-le link (paths j))
 
 pub plan-length-le : (j : Job) (starts : List ℕ) → length starts ≤ packetsMost → ((s : ℕ) → List·Memᴰ s starts → s ≤ startMost)
-    → ((p : List ℕ) → List·Memᴰ p (paths j) → length p ≤ pathMost) → length (paths j) ≤ packetsMost → length (planText j starts) ≤ planMost
+    → ((p : List ℕ) → List·Memᴰ p (paths j) → (length p ≤ pathMost) × Delayed (delayIn j) p) → length (paths j) ≤ packetsMost → length (planText j starts) ≤ planMost
 unfolding planText
 plan-length-le j starts m f g n =
-    let time = routingTime starts (paths j) in
+    let time = routingTime (delayIn j) starts (paths j) in
     omega (
       arith,
-      length-append (packetLines 0 starts (paths j)) (lineText letterT (time ∷ congestion j ∷ dilation j ∷ [])),
-      lines-length-le 0 packetsMost starts (paths j) f g (omega arith),
+      length-append (packetLines (delayIn j) 0 starts (paths j)) (lineText letterT (time ∷ congestion j ∷ dilation j ∷ [])),
+      lines-length-le (delayIn j) 0 packetsMost starts (paths j) f g (omega arith),
       digits-below-packets,
       line-length letterT time (congestion j) (dilation j),
-      decimal-length-le 4 time (omega (arith, ends-le starts (paths j) f g)),
+      decimal-length-le 4 time (omega (arith, ends-le (delayIn j) starts (paths j) f g)),
       decimal-length-le 3 (congestion j) (omega (arith, congestion-le j)),
-      decimal-length-le 2 (dilation j) (omega (arith, dilation-least j pathMost g)),
+      decimal-length-le 2 (dilation j) (omega (arith, dilation-least j (delayMost * pathMost) (λ p m. let (short, delayed) = g p m in omega (arith, short, travel-le-hops (delayIn j) p delayed)))),
     )

@@ -11,6 +11,7 @@ use borrow.Author.Tests.{ne-eqb}
 use Rattle.counting.proofs.Places.{none-not-some, mem-at}
 use Rattle.rules.specs.Sizes.{pathMost, startMost, planMost, leadMost}
 use Rattle.rules.specs.Network.{Job, paths}
+use Rattle.rules.specs.Travel.{delayIn}
 use Rattle.rules.specs.Outcome.{is, refused, fine}
 use Rattle.rules.specs.Tables.{tables}
 use Rattle.rules.specs.Greedy.{greedy}
@@ -23,7 +24,8 @@ use Rattle.theorems.specs.Jobs.{IsJob, IsStarted}
 use Rattle.theorems.proofs.Verdicts.{leb-iff, eqb-iff, is-iff, must-iff, then-iff, then-is-iff, onward-is}
 use Rattle.theorems.proofs.TextJobs.{reading-accepted}
 use Rattle.theorems.proofs.Paths.{path-distinct}
-use Rattle.theorems.proofs.Accepted.{tables-fine-iff, length-paths, job-path}
+use Rattle.theorems.proofs.Accepted.{tables-fine-iff, length-paths, length-packets, job-path, job-delayed}
+use Rattle.theorems.proofs.Travels.{Delayed}
 use Rattle.theorems.proofs.PlanLength.{plan-length-le}
 use Rattle.theorems.proofs.Leads.{entry-at-enters, enters-at-entry, lead-in-range, no-lead-iff, sub-zero-iff}
 use Rattle.theorems.proofs.Starts.{length-greedy}
@@ -45,8 +47,8 @@ started-fine-iff j starts =
     (λ t. record { job = t .0; count = t .1 .0; in-time = t .1 .1 }, λ h. (h .job, (h .count, h .in-time)))
 
 -- every path of an accepted job is short enough
-paths-short : (j : Job) → IsJob j → (p : List ℕ) → List·Memᴰ p (paths j) → length p ≤ pathMost
-paths-short j job p m = job-path j job m .1 .short
+paths-short : (j : Job) → IsJob j → (p : List ℕ) → List·Memᴰ p (paths j) → (length p ≤ pathMost) × Delayed (delayIn j) p
+paths-short j job p m = (job-path j job m .1 .short, job-delayed j job m)
 
 pub started-plan-length : (j : Job) (starts : List ℕ) → startedVerdict j starts ≡ fine → length (planText j starts) ≤ planMost
 started-plan-length j starts e =
@@ -60,7 +62,7 @@ greedy-started j e =
     let job = tables-fine-iff j .0 e in
     started-fine-iff j (greedy j) .1 (record {
       job = job;
-      count = omega (arith, length-greedy j, length-paths j, job .stops-count);
+      count = omega (arith, length-greedy j, length-packets j job, length-paths j, job .stops-count);
       in-time = λ s m. let (k, at) = mem-at m in omega (arith, job-bounded j job .start-le-most k s at);
     })
 
@@ -76,32 +78,32 @@ unfolding led
 led-in-range j starts a b link z e =
     let (v, l) = then-is-iff (startedVerdict j starts) _ z .0 e in
     let h = started-fine-iff j starts .0 v in
-    lead-in-range starts (paths j) (h .in-time) (paths-short j (h .job)) a b link z l
+    lead-in-range (delayIn j) starts (paths j) (h .in-time) (paths-short j (h .job)) a b link z l
 
 -- with accepted starts, the lead is the difference of the steps in which the two packets enter the link
 module _ (j : Job) (starts : List ℕ) (accepted : startedVerdict j starts ≡ fine) (a b link : ℕ) where
-  entry-of : (k : ℕ) {x : ℕ} → EntersAt (paths j) starts k link x → entryAt starts (paths j) link k ≡ some x
-  entry-of k = enters-at-entry starts (paths j) link k (λ p m. path-distinct (job-path j (started-fine-iff j starts .0 accepted .job) m .1 .on-path))
+  entry-of : (k : ℕ) {x : ℕ} → EntersAt (delayIn j) (paths j) starts k link x → entryAt (delayIn j) starts (paths j) link k ≡ some x
+  entry-of k = enters-at-entry (delayIn j) starts (paths j) link k (λ p m. path-distinct (job-path j (started-fine-iff j starts .0 accepted .job) m .1 .on-path))
 
-  no-entry-iff : (k : ℕ) → (entryAt starts (paths j) link k ≡ none) ↔ ((x : ℕ) → EntersAt (paths j) starts k link x → ⊥)
-  no-entry-iff k = (λ e x h. none-not-some (sym e ∙ entry-of k h), go (entryAt starts (paths j) link k) refl)
+  no-entry-iff : (k : ℕ) → (entryAt (delayIn j) starts (paths j) link k ≡ none) ↔ ((x : ℕ) → EntersAt (delayIn j) (paths j) starts k link x → ⊥)
+  no-entry-iff k = (λ e x h. none-not-some (sym e ∙ entry-of k h), go (entryAt (delayIn j) starts (paths j) link k) refl)
     where
-      go : (o : Option ℕ) → entryAt starts (paths j) link k ≡ o → ((x : ℕ) → EntersAt (paths j) starts k link x → ⊥) → o ≡ none
+      go : (o : Option ℕ) → entryAt (delayIn j) starts (paths j) link k ≡ o → ((x : ℕ) → EntersAt (delayIn j) (paths j) starts k link x → ⊥) → o ≡ none
       go none e h = refl
-      go (some x) e h = absurd (h x (entry-at-enters starts (paths j) link k e))
+      go (some x) e h = absurd (h x (entry-at-enters (delayIn j) starts (paths j) link k e))
 
-  pub led-is : {x y : ℕ} → a ≢ b → EntersAt (paths j) starts a link x → EntersAt (paths j) starts b link y → led j starts a b link ≡ is (pos x -ℤ pos y)
+  pub led-is : {x y : ℕ} → a ≢ b → EntersAt (delayIn j) (paths j) starts a link x → EntersAt (delayIn j) (paths j) starts b link y → led j starts a b link ≡ is (pos x -ℤ pos y)
   unfolding led lead
   led-is apart p q = rw (accepted, ne-eqb a b apart, entry-of a p, entry-of b q)
 
   -- so it is zero exactly if both enter in one step
-  pub led-zero-iff : {x y : ℕ} → a ≢ b → EntersAt (paths j) starts a link x → EntersAt (paths j) starts b link y → (led j starts a b link ≡ is (pos 0)) ↔ (x ≡ y)
+  pub led-zero-iff : {x y : ℕ} → a ≢ b → EntersAt (delayIn j) (paths j) starts a link x → EntersAt (delayIn j) (paths j) starts b link y → (led j starts a b link ≡ is (pos 0)) ↔ (x ≡ y)
   led-zero-iff {x} {y} apart p q = rw (led-is apart p q) (Iff·trans is-iff (sub-zero-iff x y))
 
   -- and there is none exactly if the two packets are one, or one of the two does not enter the link
-  pub led-no-lead-iff : (led j starts a b link ≡ refused 13 0) ↔ ((a ≡ b) ⊎ (((x : ℕ) → EntersAt (paths j) starts a link x → ⊥) ⊎ ((y : ℕ) → EntersAt (paths j) starts b link y → ⊥)))
+  pub led-no-lead-iff : (led j starts a b link ≡ refused 13 0) ↔ ((a ≡ b) ⊎ (((x : ℕ) → EntersAt (delayIn j) (paths j) starts a link x → ⊥) ⊎ ((y : ℕ) → EntersAt (delayIn j) (paths j) starts b link y → ⊥)))
   unfolding led
-  led-no-lead-iff = rw accepted (Iff·trans (no-lead-iff starts (paths j) a b link) (
+  led-no-lead-iff = rw accepted (Iff·trans (no-lead-iff (delayIn j) starts (paths j) a b link) (
     ⊎-map (λ e. e) (⊎-map (no-entry-iff a .0) (no-entry-iff b .0)),
     ⊎-map (λ e. e) (⊎-map (no-entry-iff a .1) (no-entry-iff b .1)),
   ))

@@ -19,11 +19,12 @@ use Rattle.rules.specs.JobWritten.{linesText, jobText}
 use Rattle.theorems.proofs.Verdicts.{leb-iff, eqb-iff, and-iff}
 use Rattle.theorems.proofs.Paths.{path-links-exist}
 use Rattle.theorems.specs.Jobs.{AtEach, IsLink, IsPacket, IsJob}
+use Rattle.theorems.specs.LinesLeft.{withRest}
 use Rattle.theorems.proofs.Accepted.{hops-from, job-stops-agree}
 use Rattle.theorems.proofs.TextJobs.{reading-job}
 use Rattle.theorems.proofs.TextPieces.{split-first}
 use Rattle.theorems.proofs.TextLines.{Sayable, line-of-bytes, split-line}
-use Rattle.theorems.proofs.TextSteps.{read, reading-lines-iff, first-line-iff, link-line-iff, packet-line-iff}
+use Rattle.theorems.proofs.TextSteps.{reading-lines-iff, first-line-iff, link-line-iff, packet-line-iff}
 use Rattle.theorems.proofs.TextWritten.{reading-text}
 
 -- ---- the hops up to one stop, and those from there to the next
@@ -39,13 +40,13 @@ module _ (a e : ℕ) (hops : List ℕ) (l : a ≤ e) where
 
 -- from job i the bytes make job j, whatever the number of their first line
 abbrev Reads : Job → List ℕ → Job → Type 0
-Reads i bs j = (n : ℕ) → read n i (split lineFeed bs) ≡ is j
+Reads i bs j = (n : ℕ) → withRest n i (split lineFeed bs) ≡ is j
 
-after-line : (n : ℕ) (i : Job) (p bs : List ℕ) → withLines n i p (split lineFeed bs) ≡ onward (withLine n i (lineOf p)) (λ k. read (suc n) k (split lineFeed bs))
+after-line : (n : ℕ) (i : Job) (p bs : List ℕ) → withLines n i p (split lineFeed bs) ≡ onward (withLine n i (lineOf p)) (λ k. withRest (suc n) k (split lineFeed bs))
 unfolding withLines
 after-line n i p bs = let (q, qs, e) = split-first lineFeed bs in rw e
 
-after-first : (p bs : List ℕ) → allLines (p ∷ split lineFeed bs) ≡ onward (firstLine (lineOf p)) (λ k. read 2 k (split lineFeed bs))
+after-first : (p bs : List ℕ) → allLines (p ∷ split lineFeed bs) ≡ onward (firstLine (lineOf p)) (λ k. withRest 2 k (split lineFeed bs))
 after-first p bs = let (q, qs, e) = split-first lineFeed bs in rw e
 
 reads-line : (i k j : Job) (letter : ℕ) (ns bs : List ℕ) → lineFeed < letter → Sayable ns → ((n : ℕ) → withLine n i (letterLine letter (some ns)) ≡ is k)

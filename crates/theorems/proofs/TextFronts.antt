@@ -5,30 +5,32 @@ use Prim.Native.Nat.{ℕ, suc, _+_}
 use native.Mathlib.Omega.{arith}
 use lib.ListN.{length, take, length-append}
 use lib.Seq.{take-length, take-all}
-use Rattle.rules.specs.Network.{Job, paths}
+use Rattle.rules.specs.Network.{Job}
+use Rattle.rules.specs.Claims.{claims}
 use Rattle.rules.specs.Outcome.{Outcome, is, refused, onward}
 use Rattle.rules.specs.Greedy.{greedy}
 use Rattle.rules.specs.Bytes.{lineFeed, split}
 use Rattle.rules.specs.JobText.{lineOf, withLine, withLines, firstLine, allLines, reading}
+use Rattle.theorems.specs.LinesLeft.{withRest}
 use Rattle.theorems.proofs.Verdicts.{refused-not-is, is-iff, eqb-iff, must-iff, then-iff, onward-is}
 use Rattle.theorems.proofs.TextPieces.{Ended, split-first, split-append, split-ended}
-use Rattle.theorems.proofs.TextSteps.{reading-lines-iff, read}
+use Rattle.theorems.proofs.TextSteps.{reading-lines-iff}
 use Rattle.theorems.proofs.TextJobs.{reading-job, text-front}
-use Rattle.theorems.proofs.Starts.{length-greedy, greedy-front}
+use Rattle.theorems.proofs.Starts.{length-greedy-claims, greedy-front}
 
 -- ---- lines are read one after another
 
-read-cons : (n : ℕ) (j : Job) (p : List ℕ) (ps : List (List ℕ)) (q : List ℕ) (qs : List (List ℕ)) → withLines n j p (ps ++ q ∷ qs) ≡ onward (withLine n j (lineOf p)) (λ k. read (suc n) k (ps ++ q ∷ qs))
+read-cons : (n : ℕ) (j : Job) (p : List ℕ) (ps : List (List ℕ)) (q : List ℕ) (qs : List (List ℕ)) → withLines n j p (ps ++ q ∷ qs) ≡ onward (withLine n j (lineOf p)) (λ k. withRest (suc n) k (ps ++ q ∷ qs))
 unfolding withLines
 read-cons n j p [] q qs = refl
 read-cons n j p (r ∷ ps) q qs = refl
 
-all-cons : (p : List ℕ) (ps : List (List ℕ)) (q : List ℕ) (qs : List (List ℕ)) → allLines (p ∷ (ps ++ q ∷ qs)) ≡ onward (firstLine (lineOf p)) (λ k. read 2 k (ps ++ q ∷ qs))
+all-cons : (p : List ℕ) (ps : List (List ℕ)) (q : List ℕ) (qs : List (List ℕ)) → allLines (p ∷ (ps ++ q ∷ qs)) ≡ onward (firstLine (lineOf p)) (λ k. withRest 2 k (ps ++ q ∷ qs))
 all-cons p [] q qs = refl
 all-cons p (r ∷ ps) q qs = refl
 
 -- what follows some lines is read from the job that they say, if they say one
-read-append : (ps : List (List ℕ)) (o : Outcome Job) (n m : ℕ) (q : List ℕ) (qs : List (List ℕ)) → n + length ps ≡ m → onward o (λ j. read n j (ps ++ q ∷ qs)) ≡ onward (onward o (λ j. read n j (Ended ps))) (λ j. withLines m j q qs)
+read-append : (ps : List (List ℕ)) (o : Outcome Job) (n m : ℕ) (q : List ℕ) (qs : List (List ℕ)) → n + length ps ≡ m → onward o (λ j. withRest n j (ps ++ q ∷ qs)) ≡ onward (onward o (λ j. withRest n j (Ended ps))) (λ j. withLines m j q qs)
 unfolding withLines
 read-append [] (refused number place) n m q qs e = refl
 read-append [] (is j) n m q qs e = let same : m ≡ n = omega arith in rw same
@@ -70,11 +72,11 @@ accepted-whole (p ∷ q ∷ ps) j e =
 feed-whole : (f : List ℕ) → Whole (split lineFeed (f ++ (lineFeed ∷ [])))
 feed-whole f = let (p, ps, e) = split-first lineFeed f in (p, ps, rw (split-ended lineFeed f, e))
 
--- the job of a text's front, and its packets in front of those of the whole text
+-- the job of a text's front, and what its packets claim in front of what those of the whole text claim
 record Front (front : List ℕ) (j : Job) : Type 0 where
   job : Job
   says : reading front ≡ is job
-  packets : take (length (paths job)) (paths j) ≡ paths job
+  front-claims : take (length (claims job)) (claims j) ≡ claims job
 
 front-of : (front more : List ℕ) (j : Job) → Whole (split lineFeed front) → reading (front ++ more) ≡ is j → Front front j
 front-of front more j (p, ps, whole) e =
@@ -83,7 +85,7 @@ front-of front more j (p, ps, whole) e =
     let (short, lines) = reading-lines-iff (front ++ more) j .0 e in
     let (i, read, on) = onward-is (allLines (p ∷ Ended ps)) _ (sym (all-append p ps q qs) ∙ (rw pieces at lines)) in
     let says = reading-lines-iff front i .1 (omega (arith, length-append front more), rw whole read) in
-    record { job = i; says = says; packets = text-front (2 + length ps) i q qs j (reading-job front i says) on }
+    record { job = i; says = says; front-claims = text-front (2 + length ps) i q qs j (reading-job front i says) on }
 
 -- ---- what a text goes on with moves nothing
 
@@ -91,17 +93,17 @@ front-of front more j (p, ps, whole) e =
 pub reading-front : (front f more : List ℕ) (j : Job) → front ≡ f ++ (lineFeed ∷ []) → reading (front ++ more) ≡ is j → (i : Job) × (reading front ≡ is i)
 reading-front front f more j last e = let r = front-of front more j (rw last (feed-whole f)) e in (r .job, r .says)
 
--- an accepted text that begins with an accepted text has its packets in front
-pub paths-of-front : (front more : List ℕ) (i j : Job) → reading front ≡ is i → reading (front ++ more) ≡ is j → take (length (paths i)) (paths j) ≡ paths i
-paths-of-front front more i j e f =
+-- in an accepted text that begins with an accepted text its packets, which stand in front, claim what they claim alone
+pub claims-of-front : (front more : List ℕ) (i j : Job) → reading front ≡ is i → reading (front ++ more) ≡ is j → take (length (claims i)) (claims j) ≡ claims i
+claims-of-front front more i j e f =
     let r = front-of front more j (accepted-whole _ i (reading-lines-iff front i .0 e .1)) f in
     let same : r .job ≡ i = is-iff .0 (sym (r .says) ∙ e) in
-    rw (← same) (r .packets)
+    rw (← same) (r .front-claims)
 
 -- and gives them the starts that they have alone
 pub starts-of-front : (front more : List ℕ) (i j : Job) → reading front ≡ is i → reading (front ++ more) ≡ is j → take (length (greedy i)) (greedy j) ≡ greedy i
 starts-of-front front more i j e f =
-    rw (length-greedy i) (greedy-front j i (length (paths i)) (paths-of-front front more i j e f ∙ sym (take-length (paths i))) ∙ take-all (length (paths i)) (greedy i) (omega (arith, length-greedy i)))
+    rw (length-greedy-claims i) (greedy-front j i (length (claims i)) (claims-of-front front more i j e f ∙ sym (take-length (claims i))) ∙ take-all (length (claims i)) (greedy i) (omega (arith, length-greedy-claims i)))
 
 -- so two accepted texts with one front, cut after a line, give its packets the same starts
 pub starts-of-common-front : (front f more other : List ℕ) (j k : Job) → front ≡ f ++ (lineFeed ∷ []) → reading (front ++ more) ≡ is j → reading (front ++ other) ≡ is k

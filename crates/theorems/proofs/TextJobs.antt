@@ -2,21 +2,23 @@
 -- ones as they are.
 use mathlib.Core.Path.{_≡_, refl, sym, _∙_}
 use mathlib.Core.Bool.{true}
-use mathlib.Core.List.{List, [], _∷_, _++_, append-nil, append-assoc}
+use mathlib.Core.List.{List, [], _∷_, _++_, append-nil, append-assoc, map-append}
 use mathlib.Core.Logic.{Iff·rfl}
 use Prim.Native.Nat.{ℕ, suc, _+_, _≤_, _<_}
 use native.Mathlib.Omega.{arith}
 use lib.ListN.{length, take, length-append}
 use lib.Seq.{take-append-seam, take-append-add, take-append-le, take-length, drop-at}
-use Rattle.counting.proofs.Places.{none-not-some, at-below}
+use Rattle.counting.proofs.Places.{none-not-some, at-below, nil-of-length}
 use Rattle.rules.specs.Sizes.{nodesMost, linksMost, packetsMost, hopsMost}
-use Rattle.rules.specs.Network.{Job, pathsFrom, paths}
+use Rattle.rules.specs.Network.{Job, pathsFrom, paths, packetsOf, packets}
+use Rattle.rules.specs.Claims.{Claim, claimsOf, claims}
 use Rattle.rules.specs.Outcome.{is, fine}
 use Rattle.rules.specs.Tables.{stopsAgree, tables}
 use Rattle.rules.specs.Bytes.{lineFeed, split}
 use Rattle.rules.specs.JobText.{Line, nodes, link, packet, bad, lineOf, blank, withLink, withPacket, withLine, withLines, firstLine, allLines, reading}
 use Rattle.theorems.specs.Jobs.{IsLink, IsPacket, IsJob}
 use Rattle.theorems.proofs.Verdicts.{leb-iff, eqb-iff, and-iff, is-iff, refused-not-is, onward-is, must-iff, then-iff}
+use Rattle.theorems.proofs.Packets.{packets-of-snoc}
 use Rattle.theorems.proofs.TextSteps.{reading-lines-iff, first-line-iff, link-line-iff, packet-line-iff}
 use Rattle.theorems.proofs.Accepted.{at-each-snoc, stops-agree-iff, tables-fine-iff, job-stops-agree, length-paths, hops-from}
 
@@ -56,11 +58,11 @@ blank-job n a b = record {
   packets = λ k s p x. absurd (none-not-some x);
 }
 
--- the second job is accepted, and the paths of the first stand in front of its own
+-- the second job is accepted, and what the packets of the first claim stands in front of what its own claim
 pub record GoesOn (j k : Job) : Type 0 where
   pub job : IsJob k
-  more : List (List ℕ)
-  front : paths k ≡ paths j ++ more
+  more : List (List Claim)
+  front : claims k ≡ claims j ++ more
 
 goes-on-self : {j : Job} → IsJob j → GoesOn j j
 goes-on-self h = record { job = h; more = []; front = sym (append-nil _) }
@@ -69,9 +71,9 @@ goes-on-trans : {i j k : Job} → GoesOn i j → GoesOn j k → GoesOn i k
 goes-on-trans a b = record { job = b .job; more = a .more ++ b .more; front = rw (b .front, a .front, append-assoc) }
 
 module _ (j : Job) (h : IsJob j) where
-  -- a link comes only while there is no packet, so no path depends on the links before it
+  -- a link comes only while there is no packet, so nothing is claimed before it
   goes-on-link : (from to : ℕ) → length (j .sources) ≡ 0 → length (j .network .origins) < linksMost → IsLink (j .network .nodes) from to → GoesOn j (withLink j from to)
-  unfolding paths
+  unfolding claims packets packetsOf
   goes-on-link from to first room new = record {
     job = record {
       ends-count = simp length-append (omega (arith, h .ends-count));
@@ -86,10 +88,11 @@ module _ (j : Job) (h : IsJob j) where
       packets = λ k s p x. absurd (omega (arith, at-below (j .sources) k x));
     };
     more = [];
-    front = sym (append-nil _);
+    front = rw (← nil-of-length (j .sources) first);
   }
 
   goes-on-packet : (source : ℕ) (path : List ℕ) → length (j .sources) < packetsMost → length (j .hops) + length path ≤ hopsMost → IsPacket (j .network) source path → GoesOn j (withPacket j source path)
+  unfolding claims packets
   goes-on-packet source path room hops new = record {
     job = record {
       ends-count = h .ends-count;
@@ -103,8 +106,8 @@ module _ (j : Job) (h : IsJob j) where
       links = h .links;
       packets = rw (paths-with-packet j h source path) (at-each-snoc (IsPacket (j .network)) (j .sources) (paths j) (sym (length-paths j ∙ h .stops-count)) (h .packets) new);
     };
-    more = path ∷ [];
-    front = paths-with-packet j h source path;
+    more = claimsOf (j .network) (record { source = source; path = path }) ∷ [];
+    front = rw (paths-with-packet j h source path, packets-of-snoc (j .sources) source (paths j) path (sym (length-paths j ∙ h .stops-count)), map-append);
   }
 
   pub goes-on-line : (n : ℕ) (l : Line) (k : Job) → withLine n j l ≡ is k → GoesOn j k
@@ -147,6 +150,6 @@ reading-job text j e = all-lines-job (split lineFeed text) j (reading-lines-iff 
 pub reading-accepted : (text : List ℕ) (j : Job) → reading text ≡ is j → tables j ≡ fine
 reading-accepted text j e = tables-fine-iff j .1 (reading-job text j e)
 
--- the packets of a job stay in front of what later lines add
-pub text-front : (n : ℕ) (j : Job) (p : List ℕ) (ps : List (List ℕ)) (k : Job) → IsJob j → withLines n j p ps ≡ is k → take (length (paths j)) (paths k) ≡ paths j
+-- what a job's packets claim stays in front of what later lines add
+pub text-front : (n : ℕ) (j : Job) (p : List ℕ) (ps : List (List ℕ)) (k : Job) → IsJob j → withLines n j p ps ≡ is k → take (length (claims j)) (claims k) ≡ claims j
 text-front n j p ps k h e = let s = goes-on-lines n p ps j k h e in rw (s .front, take-append-seam)

@@ -1,14 +1,14 @@
 -- When a text's length and each of its lines is accepted, and what the line makes of the job read so far.
 use mathlib.Core.Path.{_≡_}
-use mathlib.Core.List.{List, [], _∷_}
+use mathlib.Core.List.{List}
 use mathlib.Core.Logic.{_↔_, Iff·rfl}
 use Prim.Native.Nat.{ℕ, _+_, _≤_, _<_}
 use lib.ListN.{length}
 use Rattle.rules.specs.Sizes.{textMost, nodesMost, linksMost, packetsMost, hopsMost}
 use Rattle.rules.specs.Network.{Job}
-use Rattle.rules.specs.Outcome.{Outcome, is}
+use Rattle.rules.specs.Outcome.{is}
 use Rattle.rules.specs.Bytes.{lineFeed, split}
-use Rattle.rules.specs.JobText.{nodes, link, packet, blank, withLink, withPacket, withLine, withLines, firstLine, allLines, reading}
+use Rattle.rules.specs.JobText.{nodes, link, packet, blank, withLink, withPacket, withLine, firstLine, allLines, reading}
 use Rattle.theorems.proofs.Verdicts.{leb-iff, eqb-iff, and-iff, is-iff, must-iff, then-iff}
 use Rattle.theorems.specs.Jobs.{IsLink, IsPacket}
 use Rattle.theorems.proofs.Accepted.{link-fine-iff, packet-fine-iff}
@@ -31,8 +31,3 @@ pub packet-line-iff : (n : ℕ) (j : Job) (source : ℕ) (path : List ℕ) (k : 
 unfolding withLine
 packet-line-iff n j source path k =
     then-iff (must-iff _ _ (leb-iff _ _)) (then-iff (must-iff _ _ (leb-iff _ _)) (then-iff (packet-fine-iff (j .network) n source path) is-iff))
-
--- a list of pieces is read if there is a first one
-abbrev pub read : ℕ → Job → List (List ℕ) → Outcome Job
-read n j [] = is j
-read n j (p ∷ ps) = withLines n j p ps

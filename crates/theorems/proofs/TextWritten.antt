@@ -4,7 +4,7 @@ use mathlib.Core.List.{List, [], _∷_, _++_, append-nil, append-assoc}
 use Prim.Native.Nat.{ℕ, suc}
 use native.Mathlib.Omega.{arith}
 use lib.ListN.{length}
-use lib.Seq.{take-length}
+use Rattle.counting.proofs.Places.{nil-of-length}
 use Rattle.rules.specs.Network.{Job, paths}
 use Rattle.rules.specs.Outcome.{is}
 use Rattle.rules.specs.Bytes.{lineFeed, letterL, letterP, lineText, split}
@@ -17,9 +17,6 @@ use Rattle.theorems.proofs.TextJobs.{goes-on-line, first-job, paths-wit
 use Rattle.theorems.proofs.TextPieces.{eachAfter, split-joined}
 use Rattle.theorems.proofs.TextLines.{Says, line-says}
 use Rattle.theorems.proofs.TextSteps.{reading-lines-iff, first-line-iff, link-line-iff, packet-line-iff}
-
-nil-of-length : {A : Type 0} (xs : List A) → length xs ≡ 0 → [] ≡ xs
-nil-of-length xs e = rw e at (take-length xs)
 
 -- ---- the text of a job with one line more
 

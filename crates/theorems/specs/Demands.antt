@@ -6,6 +6,7 @@ use Prim.Native.Nat.{ℕ, _*_, _≤_}
 use lib.ListN.{length, getElem?}
 use Rattle.rules.specs.Sizes.{startFoundMost}
 use Rattle.rules.specs.Network.{Job, paths}
+use Rattle.rules.specs.Travel.{delayIn}
 use Rattle.rules.specs.Greedy.{greedy}
 use Rattle.rules.specs.Counts.{endOf, routingTime, congestion, dilation, meetings}
 
@@ -13,5 +14,6 @@ pub record Bounded (j : Job) : Type 0 where
   pub meetings-count : length (meetings j) ≡ length (paths j)
   pub start-le-meetings : (k s m : ℕ) → getElem? (greedy j) k ≡ some s → getElem? (meetings j) k ≡ some m → s ≤ m
   pub start-le-most : (k s : ℕ) → getElem? (greedy j) k ≡ some s → s ≤ startFoundMost
-  pub end-le-product : (k s : ℕ) (p : List ℕ) → getElem? (greedy j) k ≡ some s → getElem? (paths j) k ≡ some p → endOf s p ≤ congestion j * dilation j
-  pub routing-time-le-product : routingTime (greedy j) (paths j) ≤ congestion j * dilation j
+  pub end-le-product : (k s : ℕ) (p : List ℕ) → getElem? (greedy j) k ≡ some s → getElem? (paths j) k ≡ some p
+      → endOf (delayIn j) s p ≤ congestion j * dilation j
+  pub routing-time-le-product : routingTime (delayIn j) (greedy j) (paths j) ≤ congestion j * dilation j

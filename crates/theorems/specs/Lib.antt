@@ -1,2 +1,4 @@
 pub mod Demands
 pub mod Jobs
+pub mod Simple
+pub mod LinesLeft
