@@ -12,16 +12,17 @@ use Rattle.counting.specs.Count.{pick}
 use Rattle.counting.proofs.Tests.{never-both}
 use Rattle.counting.proofs.Places.{some-same, none-not-some, at-below, at-getD, at-take}
 use Rattle.rules.specs.Network.{pathsFrom}
+use Rattle.rules.specs.Travel.{oneStep}
 use Rattle.rules.specs.Outcome.{is}
-use Rattle.rules.specs.Claims.{Claim, linkClaims, Placed, place, placed, taken}
+use Rattle.rules.specs.Claims.{Claim, linkClaims, Placed, place, placed, taken, placedBy}
 use Rattle.rules.specs.Check.{Clash, orElse, holder, clashWith, clashOf, clashAfter}
 use Rattle.theorems.proofs.Clashes.{found, found-holder}
-use Rattle.theorems.proofs.OnPaths.{onPaths, take-placed, on-paths-at}
+use Rattle.theorems.proofs.Placements.{take-placed-by, placed-by-at}
 use Rattle.theorems.proofs.Accepted.{length-paths-from}
 use Rattle.planner.specs.declared.Checked.{Checked}
 use Rattle.planner.specs.declared.Checked.the-variants.{Clear}
 use Rattle.planner.specs.Told.{checkedOf, clearOr}
-use Rattle.planner.specs.Listed.{pathAt, packetEnters, before, clashAt}
+use Rattle.planner.specs.PacketsInLists.{pathClaims, pathAt, packetEnters, before, clashAt}
 
 -- a list cut before what stands at i, and after it
 drop-cons-at : {A : Type 0} (xs : List A) (i : ℕ) {x : A} → getElem? xs i ≡ some x → drop i xs ≡ x ∷ drop (suc i) xs
@@ -42,17 +43,17 @@ placed-le (s ∷ ss) (cs ∷ css) = omega (arith, placed-le ss css)
 
 -- all packets with their starts
 abbrev pub packets : (stops hops starts : List ℕ) → List Placed
-packets stops hops starts = onPaths starts (pathsFrom 0 stops hops)
+packets stops hops starts = placedBy pathClaims starts (pathsFrom 0 stops hops)
 
 module _ (stops hops starts : List ℕ) (k : ℕ) where
-  packet-at : k < length stops → k < length starts → getElem? (packets stops hops starts) k ≡ some (place (getD starts k 0) (linkClaims 0 (pathAt stops hops k)))
+  packet-at : k < length stops → k < length starts → getElem? (packets stops hops starts) k ≡ some (place (getD starts k 0) (pathClaims (pathAt stops hops k)))
   unfolding pathAt
   packet-at l m =
-      on-paths-at starts (pathsFrom 0 stops hops) k (at-getD starts k 0 m) (at-getD (pathsFrom 0 stops hops) k [] (omega (arith, length-paths-from 0 stops hops)))
+      placed-by-at pathClaims starts (pathsFrom 0 stops hops) k (at-getD starts k 0 m) (at-getD (pathsFrom 0 stops hops) k [] (omega (arith, length-paths-from 0 stops hops)))
 
   before-take : before stops hops starts k ≡ take k (packets stops hops starts)
   unfolding before
-  before-take = sym (take-placed k starts (pathsFrom 0 stops hops))
+  before-take = sym (take-placed-by pathClaims k starts (pathsFrom 0 stops hops))
 
 -- ---- the holder of a link, sought from packet j on
 
@@ -64,7 +65,7 @@ module _ (stops hops starts : List ℕ) (k : ℕ) (few : k ≤ length stops) (en
   unfolding holder packetEnters
   holder-turn l = rw (drop-cons-at (before stops hops starts k) j there)
     where
-      there : getElem? (before stops hops starts k) j ≡ some (place (getD starts j 0) (linkClaims 0 (pathAt stops hops j)))
+      there : getElem? (before stops hops starts k) j ≡ some (place (getD starts j 0) (pathClaims (pathAt stops hops j)))
       there = rw (before-take stops hops starts k, at-take (packets stops hops starts) k j l) (packet-at stops hops starts j (omega arith) (omega arith))
 
   pub holder-here : j < k → packetEnters stops hops starts j link step ≡ true → holderFrom stops hops starts k link step j ≡ some j
@@ -93,12 +94,12 @@ free-held bs link step t = not-found _ (found-holder 0 bs link step ∙ t)
 -- ---- the clash of packet k, sought from a hop on
 
 abbrev pub clashFrom : ℕ → List Placed → ℕ → List ℕ → ℕ → Option Clash
-clashFrom k bs s path hop = clashOf k bs s (linkClaims hop (drop hop path))
+clashFrom k bs s path hop = clashOf k bs s (linkClaims oneStep hop (drop hop path))
 
 module _ (k : ℕ) (bs : List Placed) (s : ℕ) (path : List ℕ) (hop : ℕ) where
   clash-turn : hop < length path → clashFrom k bs s path hop ≡ orElse (clashWith k (getD path hop 0) (s + hop) (holder 0 bs (getD path hop 0) (s + hop))) (clashFrom k bs s path (suc hop))
   unfolding clashOf linkClaims
-  clash-turn l = rw (drop-cons path hop 0 l)
+  clash-turn l = rw (drop-cons path hop 0 l, add-one hop)
 
   pub clash-here : hop < length path → (e step : ℕ) → step ≡ s + hop → holder 0 bs (getD path hop 0) step ≡ some e → clashFrom k bs s path hop ≡ some (record { later = k; earlier = e; resource = getD path hop 0; step = step })
   clash-here l e step is-step h = clash-turn l ∙ rw (← is-step, h)
@@ -145,5 +146,5 @@ module _ (stops hops starts : List ℕ) (as-many : length starts ≡ length stop
   pub first-nowhere : length stops ≤ k → clashesFrom (packets stops hops starts) k ≡ none
   unfolding clashAfter
   first-nowhere l =
-      let short : length (packets stops hops starts) ≤ k = omega (arith, placed-le starts (map (linkClaims 0) (pathsFrom 0 stops hops))) in
+      let short : length (packets stops hops starts) ≤ k = omega (arith, placed-le starts (map pathClaims (pathsFrom 0 stops hops))) in
       rw (drop-of-length-le (packets stops hops starts) short)

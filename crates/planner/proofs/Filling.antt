@@ -8,17 +8,16 @@ use lib.ListN.{length, getD, take, drop, set, length-map}
 use lib.Seq.{length-take-le, take-take, take-suc, take-all, drop-cons, take-append-le, set-at, append-snoc}
 use Rattle.counting.proofs.Places.{at-getD}
 use Rattle.rules.specs.Network.{pathsFrom}
-use Rattle.rules.specs.Claims.{linkClaims}
 use Rattle.theorems.proofs.FirstFrees.{first-free-is, first-free-unique}
 use Rattle.theorems.proofs.Greedies.{greedy-each-first, length-greedy-after}
-use Rattle.theorems.proofs.OnPaths.{on-paths-at, take-placed}
+use Rattle.theorems.proofs.Placements.{placed-by-at, take-placed-by}
 use Rattle.theorems.proofs.Accepted.{length-paths-from}
-use Rattle.planner.specs.Listed.{pathAt, before, startAfter, greedyStarts}
+use Rattle.planner.specs.PacketsInLists.{pathClaims, pathAt, before, startAfter, greedyStarts}
 
 module _ (stops hops : List ℕ) where
   pub length-greedy-starts : length (greedyStarts stops hops) ≡ length stops
   unfolding greedyStarts
-  length-greedy-starts = length-greedy-after [] (map (linkClaims 0) (pathsFrom 0 stops hops)) ∙ length-map (pathsFrom 0 stops hops) (linkClaims 0) ∙ length-paths-from 0 stops hops
+  length-greedy-starts = length-greedy-after [] (map pathClaims (pathsFrom 0 stops hops)) ∙ length-map (pathsFrom 0 stops hops) pathClaims ∙ length-paths-from 0 stops hops
 
   -- the start after the first k greedy ones is the next
   start-after-front : (k : ℕ) → k < length stops → startAfter stops hops (take k (greedyStarts stops hops)) ≡ getD (greedyStarts stops hops) k 0
@@ -30,7 +29,7 @@ module _ (stops hops : List ℕ) where
       let s = at-getD gs k 0 (omega (arith, length-greedy-starts)) in
       let p = at-getD ps k [] (omega (arith, length-paths-from 0 stops hops)) in
       rw (n, take-take k k gs (omega arith))
-      (first-free-unique _ _ _ _ (first-free-is _ _) (rw take-placed at (greedy-each-first [] (map (linkClaims 0) ps) k _ (on-paths-at gs ps k s p))))
+      (first-free-unique _ _ _ _ (first-free-is _ _) (rw take-placed-by at (greedy-each-first [] (map pathClaims ps) k _ (placed-by-at pathClaims gs ps k s p))))
 
   module _ (lent starts : List ℕ) (k : ℕ) (l : k < length stops) (room : length stops ≤ length lent) (so-far : starts ≡ take k (greedyStarts stops hops) ++ drop k lent) where
     front-length : length (take k (greedyStarts stops hops)) ≡ k

@@ -1,11 +1,11 @@
-pub mod Parts
+pub mod PathParts
 pub mod Entering
-pub mod Taking
+pub mod Searching
 pub mod Clashing
 pub mod Filling
-pub mod Leading
+pub mod EntrySteps
 pub mod Planning
-pub mod Apart
-pub mod Answering
+pub mod Differences
+pub mod CheckAndLead
 pub mod OneAnswer
 pub mod Obeys

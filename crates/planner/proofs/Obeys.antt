@@ -4,16 +4,17 @@ use mathlib.Core.List.{List}
 use Prim.Native.Nat.{ℕ, _≤_}
 use lib.ListN.{length, take}
 use lib.Seq.{take-append-seam, take-take}
-use Rattle.rules.specs.Network.{Job, paths}
+use Rattle.rules.specs.Network.{Job, paths, packets}
 use Rattle.rules.specs.Outcome.{Outcome, is, refused, fine, onward}
 use Rattle.rules.specs.Greedy.{greedy}
-use Rattle.rules.specs.Plain.{Starts}
+use Rattle.rules.specs.Plain.{Takes, Starts}
 use Rattle.rules.specs.Tables.{tables}
 use Rattle.rules.specs.Answers.{lentAfter, planned}
 use Rattle.theorems.specs.Demands.{Bounded}
 use Rattle.theorems.proofs.Verdicts.{refused-not-is}
 use Rattle.theorems.proofs.Rows.{planned-iff}
-use Rattle.theorems.proofs.Starts.{length-greedy, greedy-starts, greedy-front}
+use Rattle.theorems.proofs.Accepted.{tables-fine-iff, length-packets}
+use Rattle.theorems.proofs.Starts.{length-greedy, greedy-starts, greedy-front-packets}
 use Rattle.theorems.proofs.Demands.{tables-bounded}
 use Rattle.job.specs.declared.Verdict.the-variants.{Fine}
 use Rattle.planner.specs.Told.{PlannedAs}
@@ -30,19 +31,23 @@ module _ (j : Job) (room : ℕ) (lent after : List ℕ) (p : PlannedAs (planned 
   -- the first places hold the greedy starts
   pub plan-writes-greedy : take (length (paths j)) after ≡ greedy j
   unfolding lentAfter
-  plan-writes-greedy = rw (p .list, planned-greedy .1, ← length-greedy j) (take-append-seam (greedy j) _)
+  plan-writes-greedy =
+      let count : length (greedy j) ≡ length (paths j) = length-greedy j ∙ length-packets j (tables-fine-iff j .0 (planned-greedy .0)) in
+      rw (p .list, planned-greedy .1, ← count) (take-append-seam (greedy j) _)
 
-  pub plan-writes-starts : Starts (paths j) (take (length (paths j)) after)
+  pub plan-writes-starts : Starts (Takes (j .network)) (packets j) (take (length (paths j)) after)
   plan-writes-starts = rw plan-writes-greedy (greedy-starts j)
 
   -- and these obey the bounds
   pub plan-bounded : Bounded j
   plan-bounded = tables-bounded j (planned-greedy .0)
 
--- what is listed later moves nothing: two plans of jobs whose first n paths are alike have their first n starts alike
-pub plan-front : (j k : Job) (room other : ℕ) {lent after lent′ after′ : List ℕ} → PlannedAs (planned j room) Fine lent after → PlannedAs (planned k other) Fine lent′ after′
-    → (n : ℕ) → n ≤ length (paths j) → n ≤ length (paths k) → take n (paths j) ≡ take n (paths k) → take n after ≡ take n after′
-plan-front j k room other p q n l m e = front j room p l ∙ greedy-front j k n e ∙ sym (front k other q m)
+-- what is listed later moves nothing: two plans on one network whose first n packets are alike have their first n starts alike
+pub plan-front : (j k : Job) (room other : ℕ) {lent after lent′ after′ : List ℕ}
+    → PlannedAs (planned j room) Fine lent after → PlannedAs (planned k other) Fine lent′ after′
+    → (n : ℕ) → n ≤ length (paths j) → n ≤ length (paths k) → j .network ≡ k .network → take n (packets j) ≡ take n (packets k)
+    → take n after ≡ take n after′
+plan-front j k room other p q n l m same e = front j room p l ∙ greedy-front-packets j k n same e ∙ sym (front k other q m)
   where
     front : (i : Job) (places : ℕ) {lent after : List ℕ} → PlannedAs (planned i places) Fine lent after → n ≤ length (paths i) → take n after ≡ take n (greedy i)
     front i places {lent} {after} w h = sym (take-take n (length (paths i)) after h) ∙ ap (take n) (plan-writes-greedy i places lent after w)

@@ -1,18 +1,18 @@
 -- An accepted job's lists are what the planner's own functions need; and what the planner's ways out leave.
-use mathlib.Core.Path.{_≡_, refl, sym, ap, _∙_}
-use mathlib.Core.List.{List, _++_}
+use mathlib.Core.Path.{_≡_, sym, ap, _∙_}
+use mathlib.Core.List.{List, [], _++_}
 use Prim.Native.Nat.{ℕ, _≤_, _<_}
 use lib.ListN.{length, drop}
 use borrow.Author.Tests.{le-leb, lt-leb}
 use Rattle.rules.specs.Network.{Job, paths}
+use Rattle.rules.specs.Travel.{delayOf}
 use Rattle.rules.specs.Outcome.{is, refused}
 use Rattle.rules.specs.Tables.{tables}
-use Rattle.rules.specs.Claims.{claims}
 use Rattle.rules.specs.Counts.{linkCount}
-use Rattle.rules.specs.Greedy.{greedy}
+use Rattle.rules.specs.Greedy.{greedyAfter, greedy}
 use Rattle.rules.specs.Answers.{lentAfter, planned}
 use Rattle.theorems.specs.Jobs.{IsJob}
-use Rattle.theorems.proofs.Accepted.{tables-fine-iff, job-stops-agree}
+use Rattle.theorems.proofs.Accepted.{tables-fine-iff, job-claims, job-stops-agree}
 use Rattle.theorems.proofs.Demands.{packets-simple}
 use Rattle.job.specs.declared.Refusal.{Refusal}
 use Rattle.job.specs.declared.Refusal.the-variants.{ShortRoom}
@@ -20,17 +20,17 @@ use Rattle.job.specs.declared.Verdict.{Verdict}
 use Rattle.job.specs.declared.Verdict.the-variants.{Fine, Refused}
 use Rattle.job.specs.Told.{refusalOf, verdictOf}
 use Rattle.job.proofs.Laws.{after-refusal, after-fine}
-use Rattle.planner.specs.Listed.{Listed, greedyStarts}
+use Rattle.planner.specs.PacketsInLists.{SimplePaths, greedyStarts}
 use Rattle.planner.specs.Told.{PlannedAs}
 use Rattle.planner.proofs.Filling.{length-greedy-starts}
 
-pub job-listed : (j : Job) → IsJob j → Listed (j .stops) (j .hops)
+pub job-listed : (j : Job) → IsJob j → SimplePaths (j .stops) (j .hops)
 unfolding paths
 job-listed j h = record { agree = job-stops-agree j h; few = h .hops-most; links = linkCount j; simple = packets-simple j h }
 
-greedy-of-lists : (j : Job) → greedyStarts (j .stops) (j .hops) ≡ greedy j
-unfolding greedyStarts greedy claims paths
-greedy-of-lists j = refl
+greedy-of-lists : (j : Job) → IsJob j → greedyStarts (j .stops) (j .hops) ≡ greedy j
+unfolding greedyStarts greedy paths delayOf
+greedy-of-lists j h = sym (ap (greedyAfter []) (job-claims j h))
 
 module _ (j : Job) (told : Verdict) (same : verdictOf told ≡ tables j) where
   -- what a verdict that is fine says of the job
@@ -61,4 +61,4 @@ module _ (j : Job) (told : Verdict) (same : verdictOf told ≡ tables j) where
   unfolding lentAfter
   plan-filled e lent after l w =
       let a = planned-starts e (length lent) l in
-      record { verdict = rw a; list = rw (a, ← greedy-of-lists j, length-greedy-starts (j .stops) (j .hops)) w }
+      record { verdict = rw a; list = rw (a, ← greedy-of-lists j (fine-job e), length-greedy-starts (j .stops) (j .hops)) w }

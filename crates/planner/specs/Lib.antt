@@ -1,2 +1,2 @@
-pub mod Listed
+pub mod PacketsInLists
 pub mod Told

@@ -9,14 +9,14 @@ ghost use Rattle.rules.specs.Handed.{given, left};
 ghost use Rattle.rules.specs.Sizes.{packetsMost};
 ghost use Rattle.rules.specs.Network.{pathsFrom};
 ghost use Rattle.rules.specs.Outcome.{is};
-ghost use Rattle.rules.specs.Claims.{linkClaims, place, takes, taken as takenBy};
+ghost use Rattle.rules.specs.Travel.{oneStep};
+ghost use Rattle.rules.specs.Claims.{place, placedBy, takes, taken as takenBy};
 ghost use Rattle.rules.specs.Check.{holder as holderOf, clashAfter};
 ghost use Rattle.rules.specs.Lead.{entryAt, leadOf};
 ghost use Rattle.rules.specs.Answers.{planned, checked, led};
-ghost use Rattle.theorems.proofs.OnPaths.{onPaths};
 ghost use Rattle.job.specs.Lists.{jobIn};
 ghost use Rattle.planner.specs.Told.{enteredOf, checkedOf, clearOr, ledOf, PlannedAs, Near};
-ghost use Rattle.planner.specs.Listed.{Listed, beginFrom, pathAt, packetEnters, before, startAfter, greedyStarts, clashAt};
+ghost use Rattle.planner.specs.PacketsInLists.{SimplePaths, pathClaims, beginFrom, pathAt, packetEnters, before, startAfter, greedyStarts, clashAt};
 use job::Hop;
 use job::Refusal;
 use job::Step;
@@ -33,7 +33,7 @@ fn begin(stops: &[u16], k: usize) -> usize
 
 // The links of packet k's path.
 fn path<'a>(stops: &[u16], hops: &'a [u16], k: usize) -> &'a [u16]
-    requires { ⌜ Listed (now stops) (now hops) × (k < length (now stops)) ⌝ }
+    requires { ⌜ SimplePaths (now stops) (now hops) × (k < length (now stops)) ⌝ }
     ensures { λ r. ⌜ now r ≡ pathAt (given stops) (given hops) k ⌝ }
 {
     let from = begin(stops, k);
@@ -43,7 +43,7 @@ fn path<'a>(stops: &[u16], hops: &'a [u16], k: usize) -> &'a [u16]
 
 // Whether a packet with this path and start enters the link in the step.
 pub fn enters(path: &[u16], start: u16, link: u16, step: Step) -> bool
-    ensures { λ r. ⌜ r ≡ takes (place start (linkClaims 0 (given path))) link (step .0) ⌝ }
+    ensures { λ r. ⌜ r ≡ takes (place start (pathClaims (given path))) link (step .0) ⌝ }
 {
     let at = step.0;
     if at < start as u32 {
@@ -62,7 +62,7 @@ fn packet_enters(
     link: u16,
     step: Step,
 ) -> bool
-    requires { ⌜ Listed (now stops) (now hops) × (j < length (now stops)) × (j < length (now starts)) ⌝ }
+    requires { ⌜ SimplePaths (now stops) (now hops) × (j < length (now stops)) × (j < length (now starts)) ⌝ }
     ensures { λ r. ⌜ r ≡ packetEnters (given stops) (given hops) (given starts) j link (step .0) ⌝ }
 {
     enters(path(stops, hops, j), starts[j], link, step)
@@ -70,7 +70,7 @@ fn packet_enters(
 
 // Whether a packet listed before packet k enters the link in the step.
 fn taken(stops: &[u16], hops: &[u16], starts: &[u16], k: usize, link: u16, step: Step) -> bool
-    requires { ⌜ Listed (now stops) (now hops) × (k ≤ length (now stops)) × (k ≤ length (now starts)) ⌝ }
+    requires { ⌜ SimplePaths (now stops) (now hops) × (k ≤ length (now stops)) × (k ≤ length (now starts)) ⌝ }
     ensures { λ r. ⌜ r ≡ takenBy (before (given stops) (given hops) (given starts) k) link (step .0) ⌝ }
 {
     let mut j = 0;
@@ -85,7 +85,7 @@ fn taken(stops: &[u16], hops: &[u16], starts: &[u16], k: usize, link: u16, step:
 
 // The first step at which packet k, the one after those with starts, conflicts with none of them.
 fn search(stops: &[u16], hops: &[u16], starts: &[u16]) -> u16
-    requires { ⌜ Listed (now stops) (now hops) × (length (now starts) < length (now stops)) ⌝ }
+    requires { ⌜ SimplePaths (now stops) (now hops) × (length (now starts) < length (now stops)) ⌝ }
     ensures { λ r. ⌜ r ≡ startAfter (given stops) (given hops) (given starts) ⌝ }
 {
     let k = starts.len();
@@ -114,7 +114,7 @@ fn search(stops: &[u16], hops: &[u16], starts: &[u16]) -> u16
 
 // Writes the greedy starts, packet by packet, over the first places.
 fn fill(stops: &[u16], hops: &[u16], starts: &mut [u16])
-    requires { ⌜ Listed (now stops) (now hops) × (length (now stops) ≤ length (now starts)) ⌝ }
+    requires { ⌜ SimplePaths (now stops) (now hops) × (length (now stops) ≤ length (now starts)) ⌝ }
     ensures { λ _. ⌜ left starts ≡ greedyStarts (given stops) (given hops) ++ drop (length (given stops)) (given starts) ⌝ }
 {
     let mut k = 0;
@@ -132,8 +132,8 @@ enum Entered {
 }
 
 fn entry(stops: &[u16], hops: &[u16], starts: &[u16], k: u16, link: u16) -> Entered
-    requires { ⌜ Listed (now stops) (now hops) × (length (now starts) ≡ length (now stops)) ⌝ }
-    ensures { λ r. ⌜ enteredOf r ≡ entryAt (given starts) (pathsFrom 0 (given stops) (given hops)) link k ⌝ }
+    requires { ⌜ SimplePaths (now stops) (now hops) × (length (now starts) ≡ length (now stops)) ⌝ }
+    ensures { λ r. ⌜ enteredOf r ≡ entryAt oneStep (given starts) (pathsFrom 0 (given stops) (given hops)) link k ⌝ }
     ensures near { λ r. ⌜ Near r ⌝ }
 {
     let packet = wide(k);
@@ -178,7 +178,7 @@ pub enum Checked {
 
 // The lowest packet listed before packet k that enters the link in the step, where one does.
 fn holder(stops: &[u16], hops: &[u16], starts: &[u16], k: usize, link: u16, step: Step) -> u16
-    requires { ⌜ Listed (now stops) (now hops) × (k ≤ length (now stops)) × (k ≤ length (now starts)) × (k ≤ packetsMost)
+    requires { ⌜ SimplePaths (now stops) (now hops) × (k ≤ length (now stops)) × (k ≤ length (now starts)) × (k ≤ packetsMost)
         × (takenBy (before (now stops) (now hops) (now starts) k) link (step .0) ≡ true) ⌝ }
     ensures { λ r. ⌜ holderOf 0 (before (given stops) (given hops) (given starts) k) link (step .0) ≡ some r ⌝ }
 {
@@ -194,7 +194,7 @@ fn holder(stops: &[u16], hops: &[u16], starts: &[u16], k: usize, link: u16, step
 
 // The first conflicting hop of packet k.
 fn clash_of(stops: &[u16], hops: &[u16], starts: &[u16], k: usize) -> Checked
-    requires { ⌜ Listed (now stops) (now hops) × (k < length (now stops)) × (length (now starts) ≡ length (now stops))
+    requires { ⌜ SimplePaths (now stops) (now hops) × (k < length (now stops)) × (length (now starts) ≡ length (now stops))
         × (length (now stops) ≤ packetsMost) ⌝ }
     ensures { λ r. ⌜ r ≡ clearOr (clashAt (given stops) (given hops) (given starts) k) ⌝ }
 {
@@ -219,8 +219,8 @@ fn clash_of(stops: &[u16], hops: &[u16], starts: &[u16], k: usize) -> Checked
 
 // The clash of the lowest packet that conflicts with one listed before it.
 fn first_clash(stops: &[u16], hops: &[u16], starts: &[u16]) -> Checked
-    requires { ⌜ Listed (now stops) (now hops) × (length (now starts) ≡ length (now stops)) × (length (now stops) ≤ packetsMost) ⌝ }
-    ensures { λ r. ⌜ checkedOf r ≡ is (clashAfter [] (onPaths (given starts) (pathsFrom 0 (given stops) (given hops)))) ⌝ }
+    requires { ⌜ SimplePaths (now stops) (now hops) × (length (now starts) ≡ length (now stops)) × (length (now stops) ≤ packetsMost) ⌝ }
+    ensures { λ r. ⌜ checkedOf r ≡ is (clashAfter [] (placedBy pathClaims (given starts) (pathsFrom 0 (given stops) (given hops)))) ⌝ }
 {
     let mut later = 0;
     while later < stops.len() {

@@ -12,7 +12,7 @@ use lib.Seq.{length-take-le}
 use Rattle.counting.specs.Count.{maxOf}
 use Rattle.counting.proofs.Sums.{sum-const, le-max, max-le}
 use Rattle.counting.proofs.Places.{at-below}
-use Rattle.rules.specs.Network.{Network, Job, paths}
+use Rattle.rules.specs.Network.{Job, paths}
 use Rattle.rules.specs.Travel.{oneStep, delayOf, delayIn, travel}
 use Rattle.rules.specs.Counts.{endOf, dilation}
 use Rattle.rules.specs.Plain.{Enters}
@@ -24,10 +24,8 @@ travel-hops ls = omega (arith, sum-const {A = ℕ} 1 ls)
 pub travel-to-hop : (p : ℕ) (ls : List ℕ) → p ≤ length ls → travel oneStep (take p ls) ≡ p
 travel-to-hop p ls l = omega (arith, travel-hops (take p ls), length-take-le p ls l)
 
-pub enters-iff : (net : Network) (s : ℕ) (path : List ℕ) (p link step : ℕ)
-    → Enters (delayOf net) s path p link step ↔ ((getElem? path p ≡ some link) × (s + p ≡ step))
-unfolding delayOf
-enters-iff net s path p link step = (
+pub enters-iff : (s : ℕ) (path : List ℕ) (p link step : ℕ) → Enters oneStep s path p link step ↔ ((getElem? path p ≡ some link) × (s + p ≡ step))
+enters-iff s path p link step = (
   λ e. (e .there, omega (arith, e .then-step, steps (e .there))),
   λ h. record { there = h .0; then-step = omega (arith, h .1, steps (h .0)) },
 )

@@ -19,7 +19,7 @@ use Rattle.rules.specs.JobWritten.{linesText, jobText}
 use Rattle.theorems.proofs.Verdicts.{leb-iff, eqb-iff, and-iff}
 use Rattle.theorems.proofs.Paths.{path-links-exist}
 use Rattle.theorems.specs.Jobs.{AtEach, IsLink, IsPacket, IsJob}
-use Rattle.theorems.specs.LinesLeft.{withRest}
+use Rattle.theorems.specs.TextRest.{withRest}
 use Rattle.theorems.proofs.Accepted.{hops-from, job-stops-agree}
 use Rattle.theorems.proofs.TextJobs.{reading-job}
 use Rattle.theorems.proofs.TextPieces.{split-first}

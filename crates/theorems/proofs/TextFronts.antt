@@ -11,7 +11,7 @@ use Rattle.rules.specs.Outcome.{Outcome, is, refused, onward}
 use Rattle.rules.specs.Greedy.{greedy}
 use Rattle.rules.specs.Bytes.{lineFeed, split}
 use Rattle.rules.specs.JobText.{lineOf, withLine, withLines, firstLine, allLines, reading}
-use Rattle.theorems.specs.LinesLeft.{withRest}
+use Rattle.theorems.specs.TextRest.{withRest}
 use Rattle.theorems.proofs.Verdicts.{refused-not-is, is-iff, eqb-iff, must-iff, then-iff, onward-is}
 use Rattle.theorems.proofs.TextPieces.{Ended, split-first, split-append, split-ended}
 use Rattle.theorems.proofs.TextSteps.{reading-lines-iff}

@@ -1,4 +1,4 @@
 pub mod Demands
 pub mod Jobs
 pub mod Simple
-pub mod LinesLeft
+pub mod TextRest

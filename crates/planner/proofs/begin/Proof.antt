@@ -5,7 +5,7 @@ use Prim.Native.Nat.{ℕ, zero, suc, _-_}
 use native.Mathlib.Omega.{arith}
 use borrow.Author.Needs.{needs}
 use lib.ListN.{getD}
-use Rattle.planner.specs.Listed.{beginFrom}
+use Rattle.planner.specs.PacketsInLists.{beginFrom}
 use Rattle.planner.proofs.begin.Statement.{statement}
 use Rattle.planner.proofs.begin.Tie as tie
 

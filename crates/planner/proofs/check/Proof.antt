@@ -3,7 +3,7 @@ use mathlib.Core.Path.{sym, _∙_}
 use native.Mathlib.Omega.{arith}
 use borrow.Author.Needs.{needs}
 use Rattle.planner.proofs.Planning.{job-listed}
-use Rattle.planner.proofs.Answering.{fine-started, checked-refused, checked-found}
+use Rattle.planner.proofs.CheckAndLead.{fine-started, checked-refused, checked-found}
 use Rattle.planner.proofs.check.Statement.{statement}
 use Rattle.planner.proofs.check.Tie as tie
 

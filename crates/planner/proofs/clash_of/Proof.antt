@@ -6,8 +6,8 @@ use native.Mathlib.Omega.{arith}
 use borrow.Author.Needs.{needs}
 use lib.ListN.{length, getD}
 use Rattle.planner.specs.Told.{clearOr}
-use Rattle.planner.specs.Listed.{before, clashAt}
-use Rattle.planner.proofs.Parts.{path-le-hops}
+use Rattle.planner.specs.PacketsInLists.{before, clashAt}
+use Rattle.planner.proofs.PathParts.{path-le-hops}
 use Rattle.planner.proofs.Clashing.{clashFrom, clash-here, clash-later, clash-nowhere}
 use Rattle.planner.proofs.clash_of.Statement.{statement}
 use Rattle.planner.proofs.clash_of.Tie as tie

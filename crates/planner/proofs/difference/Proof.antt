@@ -1,6 +1,6 @@
 -- `planner::difference` meets its contract: two steps below 2 ^ 31 differ by a number of 32 bits.
 use borrow.Author.Needs.{needs}
-use Rattle.planner.proofs.Apart.{step-fits, bits-fit, bits-are, no-first, no-second}
+use Rattle.planner.proofs.Differences.{step-fits, bits-fit, bits-are, no-first, no-second}
 use Rattle.planner.proofs.difference.Statement.{statement}
 use Rattle.planner.proofs.difference.Tie as tie
 

@@ -9,23 +9,24 @@ use denote.Ref.{now}
 use lib.ListN.{length, getD, drop}
 use Rattle.rules.specs.Sizes.{hopsMost}
 use Rattle.rules.specs.Network.{pathsFrom}
+use Rattle.rules.specs.Travel.{oneStep}
 use Rattle.rules.specs.Lead.{entryStep, entryAt}
-use Rattle.planner.proofs.Parts.{path-le-hops}
-use Rattle.planner.proofs.Leading.{no-packet, entry-of-packet, entry-here, entry-onward, entry-nowhere}
+use Rattle.planner.proofs.PathParts.{path-le-hops}
+use Rattle.planner.proofs.EntrySteps.{no-packet, entry-of-packet, entry-here, entry-onward, entry-nowhere}
 use Rattle.planner.proofs.entry.Statement.{statement}
 use Rattle.planner.proofs.entry.Tie as tie
 
 abbrev Inv-loop : tie.InvT-loop
 Inv-loop stops hops starts k link packet links hop₀ hop =
-    (hop ≤ length links) × (entryStep link (getD starts packet 0) links ≡ entryStep link (getD starts packet 0 + hop) (drop hop links))
+    (hop ≤ length links) × (entryStep oneStep link (getD starts packet 0) links ≡ entryStep oneStep link (getD starts packet 0 + hop) (drop hop links))
 
 abbrev μ-loop : tie.MeasureT-loop
 μ-loop stops hops starts k link packet links hop₀ hop = length links - hop
 
-plus-zero : (link t : ℕ) (ls : List ℕ) → entryStep link t ls ≡ entryStep link (t + 0) ls
+plus-zero : (link t : ℕ) (ls : List ℕ) → entryStep oneStep link t ls ≡ entryStep oneStep link (t + 0) ls
 plus-zero link t ls = let z : t + 0 ≡ t = omega arith in rw z
 
-regroup : (link t n : ℕ) (ls : List ℕ) → entryStep link (t + n + 1) ls ≡ entryStep link (t + (n + 1)) ls
+regroup : (link t n : ℕ) (ls : List ℕ) → entryStep oneStep link (t + n + 1) ls ≡ entryStep oneStep link (t + (n + 1)) ls
 regroup link t n ls = let z : t + n + 1 ≡ t + (n + 1) = omega arith in rw z
 
 found : {r x : ℕ} {o : Option ℕ} → r ≡ x → o ≡ some x → some r ≡ o
@@ -40,7 +41,7 @@ start w = w .before .before .before .before .before .before
 -- what is asked for, of the packet's own start and path
 asked : (w : P)
     → let a = start w .args in
-    entryAt (now (a .starts)) (pathsFrom 0 (now (a .stops)) (now (a .hops))) (a .link) (a .k) ≡ entryStep (a .link) (getD (now (a .starts)) (w .before .before .wide .result) 0) (now (w .path .result))
+    entryAt oneStep (now (a .starts)) (pathsFrom 0 (now (a .stops)) (now (a .hops))) (a .link) (a .k) ≡ entryStep oneStep (a .link) (getD (now (a .starts)) (w .before .before .wide .result) 0) (now (w .path .result))
 asked w = entry-of-packet _ _ _ _ _ _ _ (w .before .before .wide .ensures) (w .path .ensures) (start w .pre .1) (omega arith)
 
 short : (w : P) → length (now (w .path .result)) ≤ hopsMost

@@ -6,7 +6,7 @@ use native.Mathlib.Omega.{arith}
 use borrow.Author.Needs.{needs}
 use denote.Ref.{now}
 use lib.ListN.{length, take, drop, length-take, length-set}
-use Rattle.planner.specs.Listed.{greedyStarts}
+use Rattle.planner.specs.PacketsInLists.{greedyStarts}
 use Rattle.planner.proofs.Filling.{one-more, all-written}
 use Rattle.planner.proofs.fill.Statement.{statement}
 use Rattle.planner.proofs.fill.Tie as tie

@@ -5,7 +5,7 @@ use Prim.Native.Nat.{_-_, _≤_}
 use native.Mathlib.Omega.{arith}
 use borrow.Author.Needs.{needs}
 use Rattle.rules.specs.Check.{holder}
-use Rattle.planner.specs.Listed.{before}
+use Rattle.planner.specs.PacketsInLists.{before}
 use Rattle.planner.proofs.Clashing.{holderFrom, holder-here, holder-later, holder-nowhere, taken-held}
 use Rattle.planner.proofs.holder.Statement.{statement}
 use Rattle.planner.proofs.holder.Tie as tie

@@ -3,9 +3,9 @@ use mathlib.Core.Path.{_≡_, sym, _∙_}
 use borrow.Author.Needs.{needs}
 use denote.Ref.{now}
 use lib.ListN.{length}
-use Rattle.planner.specs.Listed.{Listed}
+use Rattle.planner.specs.PacketsInLists.{SimplePaths}
 use Rattle.planner.proofs.Planning.{job-listed}
-use Rattle.planner.proofs.Answering.{fine-started, led-refused, led-itself, led-apart}
+use Rattle.planner.proofs.CheckAndLead.{fine-started, led-refused, led-itself, led-apart}
 use Rattle.planner.proofs.lead.Statement.{statement}
 use Rattle.planner.proofs.lead.Tie as tie
 
@@ -25,7 +25,7 @@ returns-2 : tie.Need-returns-2
 returns-2 c = led-itself _ _ _ (c .before .before .before .started .ensures) _ _ _ (c .before .enum-told .given .1) (c .if1 .taken)
 
 -- after the verdict the lists are a job's, with a start for each packet
-lent : (w : tie.Else1) → let a = w .before .before .before .before .before .before .before .before .before .before .args in Listed (now (a .stops)) (now (a .hops)) × (length (now (a .starts)) ≡ length (now (a .stops)))
+lent : (w : tie.Else1) → let a = w .before .before .before .before .before .before .before .before .before .before .args in SimplePaths (now (a .stops)) (now (a .hops)) × (length (now (a .starts)) ≡ length (now (a .stops)))
 lent w =
     let s = fine-started _ _ _ (w .before .before .before .started .ensures) (w .before .enum-told .given .1) in
     (job-listed _ (s .job), s .count ∙ sym (s .job .stops-count))

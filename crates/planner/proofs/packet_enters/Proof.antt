@@ -1,6 +1,6 @@
 -- `planner::packet_enters` meets its contract: its path is the one that `path` hands out.
 use borrow.Author.Needs.{needs}
-use Rattle.planner.specs.Listed.{packetEnters}
+use Rattle.planner.specs.PacketsInLists.{packetEnters}
 use Rattle.planner.proofs.packet_enters.Statement.{statement}
 use Rattle.planner.proofs.packet_enters.Tie as tie
 

@@ -3,8 +3,8 @@ use mathlib.Core.Path.{sym}
 use native.Mathlib.Omega.{arith}
 use borrow.Author.Needs.{needs}
 use denote.Ref.{now}
-use Rattle.planner.specs.Listed.{pathAt}
-use Rattle.planner.proofs.Parts.{Part, part}
+use Rattle.planner.specs.PacketsInLists.{pathAt}
+use Rattle.planner.proofs.PathParts.{Part, part}
 use Rattle.planner.proofs.path.Statement.{statement}
 use Rattle.planner.proofs.path.Tie as tie
 

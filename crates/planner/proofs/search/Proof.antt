@@ -10,9 +10,9 @@ use denote.Ref.{now}
 use lib.ListN.{length, getD}
 use Rattle.rules.specs.Sizes.{hopsMost}
 use Rattle.rules.specs.Claims.{taken}
-use Rattle.planner.specs.Listed.{packetEnters, before, startAfter}
-use Rattle.planner.proofs.Parts.{path-le-hops}
-use Rattle.planner.proofs.Taking.{taken-by-none, start-after-le, start-passed, start-found}
+use Rattle.planner.specs.PacketsInLists.{packetEnters, before, startAfter}
+use Rattle.planner.proofs.PathParts.{path-le-hops}
+use Rattle.planner.proofs.Searching.{taken-by-none, start-after-le, start-passed, start-found}
 use Rattle.planner.proofs.search.Statement.{statement}
 use Rattle.planner.proofs.search.Tie as tie
 

@@ -5,8 +5,8 @@ use Prim.Native.Nat.{ℕ, _-_, _≤_, _<_}
 use native.Mathlib.Omega.{arith}
 use borrow.Author.Count.{below-none, below-more}
 use borrow.Author.Needs.{needs}
-use Rattle.planner.specs.Listed.{packetEnters}
-use Rattle.planner.proofs.Taking.{taken-by-one, taken-by-none}
+use Rattle.planner.specs.PacketsInLists.{packetEnters}
+use Rattle.planner.proofs.Searching.{taken-by-one, taken-by-none}
 use Rattle.planner.proofs.taken.Statement.{statement}
 use Rattle.planner.proofs.taken.Tie as tie
 

@@ -8,18 +8,22 @@ use lib.ListN.{length, getD, take}
 use Rattle.rules.specs.Sizes.{hopsMost}
 use Rattle.rules.specs.Network.{pathsFrom}
 use Rattle.rules.specs.Tables.{stopsAgree}
-use Rattle.rules.specs.Claims.{linkClaims, Placed, place, takes}
+use Rattle.rules.specs.Travel.{oneStep}
+use Rattle.rules.specs.Claims.{Claim, linkClaims, Placed, place, placedBy, takes}
 use Rattle.rules.specs.Greedy.{firstFree, greedyAfter}
 use Rattle.rules.specs.Check.{Clash, clashOf}
-use Rattle.theorems.proofs.OnPaths.{onPaths}
-use Rattle.theorems.proofs.Bounds.{Simple}
+use Rattle.theorems.specs.Simple.{Simple}
 
 -- the stops fit the hops, which are few, and every path is simple: so it is in an accepted job
-pub record Listed (stops hops : List ℕ) : Type 0 where
+pub record SimplePaths (stops hops : List ℕ) : Type 0 where
   pub agree : stopsAgree 0 stops (length hops) ≡ true
   pub few : length hops ≤ hopsMost
   pub links : ℕ
   pub simple : (p : List ℕ) → List·Memᴰ p (pathsFrom 0 stops hops) → Simple links p
+
+-- what a packet with this path claims: its links, each a step after the one before
+abbrev pub pathClaims : List ℕ → List Claim
+pathClaims path = linkClaims oneStep 0 path
 
 -- where packet k's path begins in the hops: where the one before stops, and at a for the first
 abbrev pub beginFrom : ℕ → List ℕ → ℕ → ℕ
@@ -32,20 +36,20 @@ pathAt stops hops k = getD (pathsFrom 0 stops hops) k []
 
 -- packet j enters the link in the step
 unfoldable pub packetEnters : (stops hops starts : List ℕ) (j link step : ℕ) → Bool
-packetEnters stops hops starts j link step = takes (place (getD starts j 0) (linkClaims 0 (pathAt stops hops j))) link step
+packetEnters stops hops starts j link step = takes (place (getD starts j 0) (pathClaims (pathAt stops hops j))) link step
 
 -- the packets listed before packet k, with their starts
 unfoldable pub before : List ℕ → List ℕ → List ℕ → ℕ → List Placed
-before stops hops starts k = onPaths (take k starts) (take k (pathsFrom 0 stops hops))
+before stops hops starts k = placedBy pathClaims (take k starts) (take k (pathsFrom 0 stops hops))
 
 -- the start of the packet that comes after those with starts
 unfoldable pub startAfter : List ℕ → List ℕ → List ℕ → ℕ
-startAfter stops hops starts = firstFree (before stops hops starts (length starts)) (linkClaims 0 (pathAt stops hops (length starts)))
+startAfter stops hops starts = firstFree (before stops hops starts (length starts)) (pathClaims (pathAt stops hops (length starts)))
 
 -- the greedy starts of all packets
 unfoldable pub greedyStarts : List ℕ → List ℕ → List ℕ
-greedyStarts stops hops = greedyAfter [] (map (linkClaims 0) (pathsFrom 0 stops hops))
+greedyStarts stops hops = greedyAfter [] (map pathClaims (pathsFrom 0 stops hops))
 
 -- the clash of packet k, at its own start, with those listed before it
 unfoldable pub clashAt : List ℕ → List ℕ → List ℕ → ℕ → Option Clash
-clashAt stops hops starts k = clashOf k (before stops hops starts k) (getD starts k 0) (linkClaims 0 (pathAt stops hops k))
+clashAt stops hops starts k = clashOf k (before stops hops starts k) (getD starts k 0) (pathClaims (pathAt stops hops k))

@@ -13,7 +13,7 @@ use Rattle.counting.proofs.Tests.{and-left, and-right}
 use Rattle.rules.specs.Sizes.{hopsMost}
 use Rattle.rules.specs.Network.{pathsFrom}
 use Rattle.rules.specs.Tables.{stopsAgree}
-use Rattle.planner.specs.Listed.{Listed, beginFrom, pathAt}
+use Rattle.planner.specs.PacketsInLists.{SimplePaths, beginFrom, pathAt}
 
 -- the part of a list, cut in either order
 take-drop : (a e : ℕ) (xs : List ℕ) → drop a (take e xs) ≡ take (e - a) (drop a xs)
@@ -51,11 +51,11 @@ part-from a (e ∷ es) hops zero h l =
 part-from a (e ∷ es) hops (suc zero) h l = let r = rest a e es (length hops) h in part-from e es hops 0 (r .agrees) (le-of-suc-le-suc l)
 part-from a (e ∷ es) hops (suc (suc k)) h l = let r = rest a e es (length hops) h in part-from e es hops (suc k) (r .agrees) (le-of-suc-le-suc l)
 
-pub part : (stops hops : List ℕ) (k : ℕ) → Listed stops hops → k < length stops → (from to : ℕ) → from ≡ beginFrom 0 stops k → to ≡ getD stops k 0 → Part hops (pathAt stops hops k) from to
+pub part : (stops hops : List ℕ) (k : ℕ) → SimplePaths stops hops → k < length stops → (from to : ℕ) → from ≡ beginFrom 0 stops k → to ≡ getD stops k 0 → Part hops (pathAt stops hops k) from to
 unfolding pathAt
 part stops hops k h l from to e f = rw (e, f) (part-from 0 stops hops k (h .agree) l)
 
-pub path-le-hops : (stops hops : List ℕ) (k : ℕ) → Listed stops hops → k < length stops → length (pathAt stops hops k) ≤ hopsMost
+pub path-le-hops : (stops hops : List ℕ) (k : ℕ) → SimplePaths stops hops → k < length stops → length (pathAt stops hops k) ≤ hopsMost
 path-le-hops stops hops k h l =
     let p = part stops hops k h l _ _ refl refl in
     omega (arith, ap length (p .links), length-take (getD stops k 0 - beginFrom 0 stops k) (drop (beginFrom 0 stops k) hops), p .within, h .few)
