@@ -8,7 +8,7 @@ ghost use Rattle.rules.specs.Handed.{given, left};
 ghost use Rattle.rules.specs.Sizes.{textMost, linksMost};
 ghost use Rattle.rules.specs.Bytes.{lineFeed, numbersOf, split};
 ghost use Rattle.rules.specs.JobText.{letterLine, lineOf, link, packet as packetLine, withLine, firstLine, allLines};
-ghost use Rattle.theorems.proofs.TextSteps.{read as readLines};
+ghost use Rattle.theorems.specs.TextRest.{withRest};
 ghost use Rattle.lines.specs.Fields.{fieldsFrom, howMany, leading};
 ghost use Rattle.job_text.specs.Told.{Lists, lists, listsGiven, listsLeft, roomFor, readIn, ReadAs};
 ghost use Rattle.job_text.specs.SoFar.{lineTold, LineAs, soFar, Room, Within, Took, front, Fronts, keptOf};
@@ -234,7 +234,7 @@ fn add_lines(
     requires { ⌜ Within begun × Room (lists (now origins) (now ends) (now sources) (now stops) (now hops))
         × (length (now text) ≤ textMost) × (first .line ≤ first .at + 1) ⌝ }
     ensures { λ r. ⌜ Took
-        (readLines (first .line) (soFar begun (listsGiven origins ends sources stops hops)) (split lineFeed (drop (first .at) (given text)))) r
+        (withRest (first .line) (soFar begun (listsGiven origins ends sources stops hops)) (split lineFeed (drop (first .at) (given text)))) r
         (listsLeft origins ends sources stops hops) ⌝ }
 {
     let mut cursor = first;

@@ -1,5 +1,5 @@
 pub mod Stops
-pub mod Turns
+pub mod PacketLoops
 pub mod Loads
-pub mod Answering
+pub mod WritingPlans
 pub mod OneAnswer

@@ -10,9 +10,8 @@ use lib.Dec.{eqb}
 use lib.ListN.{length, getD, set, take, drop, replicate, length-set, length-replicate, getD-replicate, drop-of-length-le, take-append-drop}
 use lib.Seq.{getD-set-same, getD-set-other, drop-append-le, length-take-le, slice, drop-length}
 use borrow.Author.Tests.{eqb-true, eqb-false}
-use Rattle.counting.specs.Count.{bit, anyOf, among, sumOf, maxBelow}
+use Rattle.counting.specs.Count.{bit, anyOf, among, occurs, sumOf, maxBelow}
 use Rattle.counting.proofs.Sums.{bit-le-one, bit-or, sum-le, sum-same, sum-const, sum-append, sum-le-any}
-use Rattle.counting.proofs.Hits.{occurs}
 use Rattle.counting.proofs.Places.{at-mem, at-getD}
 use Rattle.rules.specs.Sizes.{linksMost}
 use Rattle.rules.specs.Network.{Job, pathsFrom, paths}
@@ -23,7 +22,7 @@ use Rattle.theorems.proofs.Verdicts.{leb-iff, and-iff}
 use Rattle.theorems.proofs.Accepted.{job-stops-agree, hops-from}
 use Rattle.theorems.proofs.Demands.{packets-simple}
 use Rattle.job.proofs.Laws.{from-place}
-use Rattle.plan_text.specs.Listed.{Linked, mostOften}
+use Rattle.plan_text.specs.HopsInLists.{Linked, mostOften}
 
 pub occurs-le : (link : ℕ) (hops : List ℕ) → occurs link hops ≤ length hops
 occurs-le link hops = omega (arith, sum-le (λ l. bit (eqb l link)) (λ l. 1) hops (λ l m. bit-le-one (eqb l link)), sum-const 1 hops)

@@ -14,7 +14,7 @@ use Rattle.rules.specs.Tables.{stopsAgree}
 use Rattle.theorems.specs.Jobs.{IsJob}
 use Rattle.theorems.proofs.Verdicts.{leb-iff, and-iff}
 use Rattle.theorems.proofs.Accepted.{job-stops-agree, length-paths, hops-from}
-use Rattle.plan_text.specs.Listed.{Rising, hopCount, StopsOf}
+use Rattle.plan_text.specs.HopsInLists.{Rising, hopCount, StopsOf}
 
 module _ (stops : List ℕ) where
   -- as code has it: the first packet's hops, and those of a later one

@@ -3,17 +3,17 @@ ghost use mathlib.Core.Path.{_≡_};
 ghost use mathlib.Core.List.{List};
 ghost use Prim.Native.Nat.{ℕ, _+_, _*_, _≤_, _<_, max};
 ghost use lib.ListN.{length, getD};
-ghost use Rattle.counting.specs.Count.{maxOf};
-ghost use Rattle.counting.proofs.Hits.{occurs};
+ghost use Rattle.counting.specs.Count.{occurs, maxOf};
 ghost use Rattle.rules.specs.Handed.{given, left};
 ghost use Rattle.rules.specs.Sizes.{linksMost, packetsMost};
 ghost use Rattle.rules.specs.Network.{Job as RuledJob};
+ghost use Rattle.rules.specs.Travel.{oneStep};
 ghost use Rattle.rules.specs.Counts.{routingTime};
 ghost use Rattle.rules.specs.PlanText.{packetLines, planText};
 ghost use Rattle.rules.specs.Answers.{written};
 ghost use Rattle.job.specs.Lists.{jobIn};
 ghost use Rattle.lines.specs.Put.{Put, longestLine};
-ghost use Rattle.plan_text.specs.Listed.{Rising, hopCount, StopsOf, Linked, mostOften, Listed, ListsOf};
+ghost use Rattle.plan_text.specs.HopsInLists.{Rising, hopCount, StopsOf, Linked, mostOften, Writable, ListsOf};
 ghost use Rattle.plan_text.specs.Told.{WrittenAs};
 use job::Hop;
 use job::Job;
@@ -52,7 +52,7 @@ fn end(stops: &[u16], starts: &[u16], k: usize) -> Step
 // The routing time: the greatest end.
 fn routing_time(stops: &[u16], starts: &[u16]) -> u32
     requires { ⌜ Rising (now stops) × (length (now starts) ≡ length (now stops)) ⌝ }
-    ensures { λ r. ⌜ ((paths : List (List ℕ)) → StopsOf paths (given stops) → r ≡ routingTime (given starts) paths) ⌝ }
+    ensures { λ r. ⌜ ((paths : List (List ℕ)) → StopsOf paths (given stops) → r ≡ routingTime oneStep (given starts) paths) ⌝ }
 {
     let mut time = 0;
     let mut k = 0;
@@ -110,7 +110,7 @@ fn congestion(links: usize, hops: &[u16]) -> u32
 // Writes a line for each packet.
 fn packet_lines(room: &mut [u8], stops: &[u16], starts: &[u16]) -> usize
     requires { ⌜ Rising (now stops) × (length (now starts) ≡ length (now stops)) × (length (now stops) ≤ packetsMost) ⌝ }
-    ensures { λ r. ⌜ ((paths : List (List ℕ)) → StopsOf paths (given stops) → Put (given room) 0 (packetLines 0 (given starts) paths) (left room) r) ⌝ }
+    ensures { λ r. ⌜ ((paths : List (List ℕ)) → StopsOf paths (given stops) → Put (given room) 0 (packetLines oneStep 0 (given starts) paths) (left room) r) ⌝ }
     ensures near { λ r. ⌜ r ≤ longestLine 3 * packetsMost ⌝ }
 {
     let mut at = 0;
@@ -125,7 +125,7 @@ fn packet_lines(room: &mut [u8], stops: &[u16], starts: &[u16]) -> usize
 
 // Writes the plan's text, as far as the room goes, and gives its length.
 fn text(room: &mut [u8], links: usize, stops: &[u16], hops: &[u16], starts: &[u16]) -> usize
-    requires { ⌜ Listed links (now stops) (now hops) (now starts) ⌝ }
+    requires { ⌜ Writable links (now stops) (now hops) (now starts) ⌝ }
     ensures { λ r. ⌜ ((j : RuledJob) → ListsOf j links (given stops) (given hops) → Put (given room) 0 (planText j (given starts)) (left room) r) ⌝ }
     ensures near { λ r. ⌜ r ≤ longestLine 3 * packetsMost + longestLine 3 ⌝ }
 {

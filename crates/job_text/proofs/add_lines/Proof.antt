@@ -6,7 +6,7 @@ use borrow.Author.Needs.{needs}
 use denote.Ref.{now}
 use lib.ListN.{length, drop}
 use Rattle.rules.specs.Bytes.{lineFeed, split}
-use Rattle.theorems.proofs.TextSteps.{read}
+use Rattle.theorems.specs.TextRest.{withRest}
 use Rattle.lines.proofs.LinesLeft.{IsWhole, whole-line}
 use Rattle.job_text.specs.Told.{lists}
 use Rattle.job_text.specs.SoFar.{soFar}
@@ -17,7 +17,7 @@ use Rattle.job_text.proofs.add_lines.Tie as tie
 abbrev Inv-loop : tie.InvT-loop
 Inv-loop text origins₀ ends₀ sources₀ stops₀ hops₀ cursor₀ job₀ origins ends sources stops hops cursor job =
     let lent = lists origins₀ ends₀ sources₀ stops₀ hops₀ in
-    Going text (read (cursor₀ .line) (soFar job₀ lent) (split lineFeed (drop (cursor₀ .at) text))) lent (lists origins ends sources stops hops) cursor job
+    Going text (withRest (cursor₀ .line) (soFar job₀ lent) (split lineFeed (drop (cursor₀ .at) text))) lent (lists origins ends sources stops hops) cursor job
 
 abbrev μ-loop : tie.MeasureT-loop
 μ-loop text origins₀ ends₀ sources₀ stops₀ hops₀ cursor₀ job₀ origins ends sources stops hops cursor job = length text - cursor .at

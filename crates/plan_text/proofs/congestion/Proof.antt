@@ -3,7 +3,7 @@ use mathlib.Core.Path.{_≡_}
 use Prim.Native.Nat.{_-_, _≤_}
 use native.Mathlib.Omega.{arith}
 use borrow.Author.Needs.{needs}
-use Rattle.plan_text.specs.Listed.{mostOften}
+use Rattle.plan_text.specs.HopsInLists.{mostOften}
 use Rattle.plan_text.proofs.Loads.{occurs-le, most-often-none, most-often-turn}
 use Rattle.plan_text.proofs.congestion.Statement.{statement}
 use Rattle.plan_text.proofs.congestion.Tie as tie

@@ -3,7 +3,7 @@ use Prim.Native.Nat.{_-_}
 use native.Mathlib.Omega.{arith}
 use borrow.Author.Needs.{needs}
 use lib.ListN.{length}
-use Rattle.plan_text.proofs.Turns.{Longest, longest-start, longest-turn, longest-done}
+use Rattle.plan_text.proofs.PacketLoops.{Longest, longest-start, longest-turn, longest-done}
 use Rattle.plan_text.proofs.dilation.Statement.{statement}
 use Rattle.plan_text.proofs.dilation.Tie as tie
 

@@ -3,7 +3,7 @@ use Prim.Native.Nat.{_-_}
 use native.Mathlib.Omega.{arith}
 use borrow.Author.Needs.{needs}
 use lib.ListN.{length}
-use Rattle.plan_text.proofs.Turns.{LinesLeft, lines-start, lines-turn, lines-done}
+use Rattle.plan_text.proofs.PacketLoops.{LinesLeft, lines-start, lines-turn, lines-done}
 use Rattle.plan_text.proofs.packet_lines.Statement.{statement}
 use Rattle.plan_text.proofs.packet_lines.Tie as tie
 

@@ -3,7 +3,7 @@ use Prim.Native.Nat.{_-_}
 use native.Mathlib.Omega.{arith}
 use borrow.Author.Needs.{needs}
 use lib.ListN.{length}
-use Rattle.plan_text.proofs.Turns.{Latest, latest-start, latest-turn, latest-done}
+use Rattle.plan_text.proofs.PacketLoops.{Latest, latest-start, latest-turn, latest-done}
 use Rattle.plan_text.proofs.routing_time.Statement.{statement}
 use Rattle.plan_text.proofs.routing_time.Tie as tie
 

@@ -1,7 +1,7 @@
 -- `plan_text::text` meets its contract: the packets' lines, then routing time, C and D.
 use native.Mathlib.Omega.{arith}
 use borrow.Author.Needs.{needs}
-use Rattle.plan_text.proofs.Answering.{lists-stops, text-put}
+use Rattle.plan_text.proofs.WritingPlans.{lists-stops, text-put}
 use Rattle.plan_text.proofs.text.Statement.{statement}
 use Rattle.plan_text.proofs.text.Tie as tie
 

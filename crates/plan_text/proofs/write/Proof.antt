@@ -1,6 +1,6 @@
 -- `plan_text::write` meets its contract: what the verdict refuses, then the room by the text's length, then the text.
 use borrow.Author.Needs.{needs}
-use Rattle.plan_text.proofs.Answering.{write-refused, fine-listed, fine-lists, write-short, write-filled}
+use Rattle.plan_text.proofs.WritingPlans.{write-refused, fine-listed, fine-lists, write-short, write-filled}
 use Rattle.plan_text.proofs.write.Statement.{statement}
 use Rattle.plan_text.proofs.write.Tie as tie
 

@@ -8,13 +8,15 @@ use native.Mathlib.Omega.{arith}
 use lib.ListN.{length, getD, drop, drop-of-length-le}
 use lib.Seq.{sets, drop-cons}
 use Rattle.counting.specs.Count.{maxOf}
+use Rattle.rules.specs.Travel.{oneStep}
 use Rattle.rules.specs.Counts.{endOf, routingTime}
 use Rattle.rules.specs.Bytes.{letterS, lineText}
 use Rattle.rules.specs.PlanText.{packetLines}
+use Rattle.theorems.proofs.OneStep.{travel-hops}
 use Rattle.job.proofs.Laws.{from-place}
 use Rattle.lines.specs.Put.{Put, longestLine}
 use Rattle.lines.proofs.Putting.{put-rest}
-use Rattle.plan_text.specs.Listed.{hopCount, StopsOf}
+use Rattle.plan_text.specs.HopsInLists.{hopCount, StopsOf}
 
 module _ {paths : List (List ℕ)} {stops : List ℕ} (of : StopsOf paths stops) (k : ℕ) where
   paths-on : k < length stops → drop k paths ≡ getD paths k [] ∷ drop (k + 1) paths
@@ -46,7 +48,7 @@ module _ {stops : List ℕ} {most k : ℕ} (w : Longest stops most k) where
 
 pub record Latest (stops starts : List ℕ) (time k : ℕ) : Type 0 where
   pub near : k ≤ length stops
-  pub left : (paths : List (List ℕ)) → StopsOf paths stops → max time (routingTime (drop k starts) (drop k paths)) ≡ routingTime starts paths
+  pub left : (paths : List (List ℕ)) → StopsOf paths stops → max time (routingTime oneStep (drop k starts) (drop k paths)) ≡ routingTime oneStep starts paths
 
 pub latest-start : (stops starts : List ℕ) → Latest stops starts 0 0
 latest-start stops starts = record { near = omega arith; left = λ paths of. zero-max _ }
@@ -56,10 +58,10 @@ module _ {stops starts : List ℕ} {time k : ℕ} (w : Latest stops starts time 
   unfolding routingTime endOf
   latest-turn h e n = record {
     near = omega arith;
-    left = λ paths of. rw (n, e, ← of .hops k h) (omega (arith, rw (paths-on of k h, from-place starts k (omega arith)) at (w .left paths of)));
+    left = λ paths of. rw (n, e, ← of .hops k h, ← travel-hops (getD paths k [])) (omega (arith, rw (paths-on of k h, from-place starts k (omega arith)) at (w .left paths of)));
   }
 
-  pub latest-done : length stops ≤ k → (paths : List (List ℕ)) → StopsOf paths stops → time ≡ routingTime starts paths
+  pub latest-done : length stops ≤ k → (paths : List (List ℕ)) → StopsOf paths stops → time ≡ routingTime oneStep starts paths
   unfolding routingTime
   latest-done h paths of = omega (arith, rw (drop-of-length-le starts {i = k} (omega arith)) at (w .left paths of))
 
@@ -70,7 +72,7 @@ pub record LinesLeft (before stops starts room : List ℕ) (at k : ℕ) : Type 0
   pub low : at ≤ longestLine 3 * k
   pub same : length room ≡ length before
   pub left : (paths : List (List ℕ)) → StopsOf paths stops
-      → Put room at (packetLines k (drop k starts) (drop k paths)) (sets before 0 (packetLines 0 starts paths)) (length (packetLines 0 starts paths))
+      → Put room at (packetLines oneStep k (drop k starts) (drop k paths)) (sets before 0 (packetLines oneStep 0 starts paths)) (length (packetLines oneStep 0 starts paths))
 
 pub lines-start : (before stops starts : List ℕ) → LinesLeft before stops starts before 0 0
 lines-start before stops starts =
@@ -84,10 +86,10 @@ module _ {before stops starts room : List ℕ} {at k : ℕ} (w : LinesLeft befor
     near = omega arith;
     low = omega (arith, w .low);
     same = l ∙ w .same;
-    left = λ paths of. put-rest (rw (paths-on of k h, from-place starts k (omega arith), of .hops k h, ← e, ← add-one k) at (w .left paths of)) p;
+    left = λ paths of. put-rest (rw (paths-on of k h, from-place starts k (omega arith), travel-hops (getD paths k []), of .hops k h, ← e, ← add-one k) at (w .left paths of)) p;
   }
 
-  pub lines-done : length stops ≤ k → (paths : List (List ℕ)) → StopsOf paths stops → Put before 0 (packetLines 0 starts paths) room at
+  pub lines-done : length stops ≤ k → (paths : List (List ℕ)) → StopsOf paths stops → Put before 0 (packetLines oneStep 0 starts paths) room at
   unfolding packetLines
   lines-done h paths of =
       let p = rw (drop-of-length-le starts {i = k} (omega arith)) at (w .left paths of) in

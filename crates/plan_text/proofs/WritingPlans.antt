@@ -11,11 +11,13 @@ use borrow.Author.Tests.{le-leb, lt-leb}
 use Rattle.counting.specs.Count.{maxOf}
 use Rattle.rules.specs.Network.{Job, paths}
 use Rattle.rules.specs.Outcome.{is, refused}
-use Rattle.rules.specs.Counts.{routingTime, linkCount, dilation}
+use Rattle.rules.specs.Travel.{oneStep, delayOf}
+use Rattle.rules.specs.Counts.{routingTime, linkCount}
 use Rattle.rules.specs.Bytes.{letterT, lineText}
 use Rattle.rules.specs.PlanText.{packetLines, planText}
 use Rattle.rules.specs.Answers.{startedVerdict, inRoom, lentAfter, written}
 use Rattle.theorems.specs.Jobs.{IsStarted}
+use Rattle.theorems.proofs.OneStep.{dilation-hops}
 use Rattle.theorems.proofs.Started.{started-fine-iff}
 use Rattle.job.specs.declared.Refusal.{Refusal}
 use Rattle.job.specs.declared.Refusal.the-variants.{ShortRoom}
@@ -25,7 +27,7 @@ use Rattle.job.specs.Told.{refusalOf, verdictOf}
 use Rattle.job.proofs.Laws.{after-refusal, after-fine}
 use Rattle.lines.specs.Put.{Put}
 use Rattle.lines.proofs.Putting.{put-then}
-use Rattle.plan_text.specs.Listed.{StopsOf, mostOften, Listed, ListsOf}
+use Rattle.plan_text.specs.HopsInLists.{StopsOf, mostOften, Writable, ListsOf}
 use Rattle.plan_text.specs.Told.{WrittenAs}
 use Rattle.plan_text.specs.declared.Written.the-variants.{Bytes, Refused as NotWritten}
 use Rattle.plan_text.proofs.Stops.{job-stops-of}
@@ -37,11 +39,11 @@ module _ {j : Job} {links : ℕ} {stops hops : List ℕ} (of : ListsOf j links s
   pub lists-stops : StopsOf (paths j) stops
   lists-stops = rw (← of .stops-same) (job-stops-of j (of .job))
 
-  pub text-put : (starts : List ℕ) {before between after : List ℕ} {at next time c d : ℕ} → Put before 0 (packetLines 0 starts (paths j)) between at
-      → time ≡ routingTime starts (paths j) → c ≡ mostOften links hops → d ≡ maxOf (λ p. length p) (paths j)
+  pub text-put : (starts : List ℕ) {before between after : List ℕ} {at next time c d : ℕ} → Put before 0 (packetLines oneStep 0 starts (paths j)) between at
+      → time ≡ routingTime oneStep starts (paths j) → c ≡ mostOften links hops → d ≡ maxOf (λ p. length p) (paths j)
       → Put between at (lineText letterT (time ∷ c ∷ d ∷ [])) after next → Put before 0 (planText j starts) after next
-  unfolding planText dilation
-  text-put starts p t c d q = put-then p (rw (t, c, ← of .links-same, ← of .hops-same, job-congestion j (of .job), d) at q)
+  unfolding planText delayOf
+  text-put starts p t c d q = put-then p (rw (t, c, ← of .links-same, ← of .hops-same, job-congestion j (of .job), d, ← dilation-hops j) at q)
 
 -- ---- the ways out
 
@@ -58,7 +60,7 @@ module _ (j : Job) (starts : List ℕ) (told : Verdict) (same : verdictOf told �
     started : IsStarted j starts
     started = started-fine-iff j starts .0 (sym same ∙ ap verdictOf e)
 
-    pub fine-listed : Listed (linkCount j) (j .stops) (j .hops) starts
+    pub fine-listed : Writable (linkCount j) (j .stops) (j .hops) starts
     fine-listed =
         let job = started .job in
         record {

@@ -3,8 +3,7 @@ use mathlib.Core.Path.{_≡_}
 use mathlib.Core.List.{List, [], _∷_}
 use Prim.Native.Nat.{ℕ, _-_, _≤_, _<_}
 use lib.ListN.{length, getD}
-use Rattle.counting.specs.Count.{maxBelow}
-use Rattle.counting.proofs.Hits.{occurs}
+use Rattle.counting.specs.Count.{occurs, maxBelow}
 use Rattle.rules.specs.Sizes.{linksMost, packetsMost, hopsMost}
 use Rattle.rules.specs.Network.{Job}
 use Rattle.rules.specs.Counts.{linkCount}
@@ -29,7 +28,7 @@ pub record Linked (hops : List ℕ) : Type 0 where
   pub links : (i : ℕ) → i < length hops → getD hops i 0 < linksMost
 
 -- so it is in an accepted job with a start for each packet
-pub record Listed (links : ℕ) (stops hops starts : List ℕ) : Type 0 where
+pub record Writable (links : ℕ) (stops hops starts : List ℕ) : Type 0 where
   pub rising : Rising stops
   pub linked : Linked hops
   pub links-most : links ≤ linksMost
