@@ -5,7 +5,7 @@ use mathlib.Core.List.{List, [], _∷_, _++_, List·Memᴰ, List·Memᴰ·head a
 use Prim.Native.Nat.{ℕ}
 use lib.Dec.{eqb}
 use borrow.Author.Tests.{eqb-true, eq-eqb}
-use Rattle.counting.specs.Count.{anyOf}
+use Rattle.counting.specs.Count.{anyOf, among}
 
 -- a test that is true and false proves anything
 pub never-both : (b : Bool) → b ≡ true → b ≡ false → ⊥
@@ -34,6 +34,9 @@ and-right false b e = absurd (false≢true e)
 pub and-intro : (a b : Bool) → a ≡ true → b ≡ true → (a && b) ≡ true
 and-intro true b p q = q
 and-intro false b p q = p
+
+pub or-right : (a b : Bool) → b ≡ true → (a || b) ≡ true
+or-right a b e = rw e (or-true a)
 
 pub or-false-left : (a b : Bool) → (a || b) ≡ false → a ≡ false
 or-false-left true b e = e
@@ -72,3 +75,9 @@ module _ {A B : Type 0} where
 
 pub any-swap : {A B : Type 0} (f : A → B → Bool) (xs : List A) (ys : List B) → anyOf (λ x. anyOf (f x) ys) xs ≡ anyOf (λ y. anyOf (λ x. f x y) xs) ys
 any-swap f xs ys = same-of-iff _ _ (any-turn f xs ys) (any-turn (λ y x. f x y) ys xs)
+
+-- a number of the list fails a test that none of them passes
+pub among-none : (f : ℕ → Bool) (ns : List ℕ) (n : ℕ) → anyOf f ns ≡ false → among n ns ≡ true → f n ≡ false
+among-none f ns n none e =
+    let (m, is-in, same) = any-true (λ m. eqb m n) ns e in
+    false-of-not-true (f n) (λ t. never-both (anyOf f ns) (any-mem f is-in (rw (eqb-true m n same) t)) none)

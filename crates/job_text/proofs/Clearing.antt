@@ -1,20 +1,24 @@
 -- The first places of a list and then zeros: step by step; and what the lists hold in the end.
 use mathlib.Core.Path.{_≡_, refl, sym, ap, _∙_}
+use mathlib.Core.Bool.{false, _||_}
 use mathlib.Core.List.{List, append-nil}
 use Prim.Native.Nat.{ℕ, suc, _+_, _-_, _≤_, _<_}
 use native.Mathlib.Numerals.{add-one}
 use native.Mathlib.Omega.{arith}
+use lib.Dec.{eqb}
 use lib.ListN.{length, take, set, length-append, length-set}
 use lib.Seq.{length-take-le, take-all, take-suc-set, append-snoc}
+use Rattle.counting.proofs.Tests.{among-none}
 use Rattle.rules.specs.Network.{Job}
 use Rattle.rules.specs.Outcome.{Outcome, is}
+use Rattle.theorems.specs.TextNumbers.{lineNumbers, RefusedBy}
 use Rattle.job.specs.declared.Job.{Job as Counts}
+use Rattle.job.specs.Told.{numberPlace}
 use Rattle.job_text.specs.declared.Reading.{Reading}
 use Rattle.job_text.specs.declared.Reading.the-variants.{Read, Refused}
 use Rattle.job_text.specs.Told.{Lists, filled, countsOf, ReadAs}
 use Rattle.job_text.specs.SoFar.{soFar, Room, Within, Took, front, Fronts, keptOf}
 use Rattle.job_text.proofs.Adding.{length-links, length-packets, length-hops}
-use Rattle.job_text.proofs.Late.{Late}
 use Rattle.job_text.proofs.LineByLine.{SameLengths}
 
 pub front-on : (list : List ℕ) (i : ℕ) → i < length list → front i list ≡ front (i + 1) (set list i 0)
@@ -40,7 +44,7 @@ counts-so-far : (c : Counts) (l : Lists) → Room l → Within c → countsOf (s
 counts-so-far c l room w = rw (length-links c l room w, length-packets c l room w, length-hops c l room w)
 
 -- the first places that stay are the job's, or none
-pub cleared : {o : Outcome Job} (told : Reading) {lent mid after : Lists} → Late o → Took o told mid → Room mid → SameLengths lent mid → Fronts (keptOf told) mid after → ReadAs o told lent after
+pub cleared : {o : Outcome Job} (told : Reading) {lent mid after : Lists} {last : ℕ} → RefusedBy lineNumbers last o → Took o told mid → Room mid → SameLengths lent mid → Fronts (keptOf told) mid after → ReadAs o told lent after
 cleared (Read c) {lent} {mid} h t room s f =
     rw (← t .read)
     (record {
@@ -52,7 +56,8 @@ cleared (Read c) {lent} {mid} h t room s f =
       hops = f .hops ∙ filled-same _ _ _ (s .hops);
     })
 cleared (Refused r) h t room s f =
-    let late = rw (← t .read) at h in
+    let n = numberPlace r .0 in
+    let late : (eqb n 1 || eqb n 10) ≡ false = among-none (λ n. eqb n 1 || eqb n 10) lineNumbers n refl (h .number (sym (t .read))) in
     rw (← t .read)
     (record {
       answer = refl;

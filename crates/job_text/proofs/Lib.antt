@@ -2,7 +2,6 @@ pub mod Accepts
 pub mod Adding
 pub mod Answering
 pub mod Clearing
-pub mod Late
 pub mod LineByLine
 pub mod OneAnswer
 pub mod OneLine

@@ -11,7 +11,7 @@ use Rattle.rules.specs.Outcome.{Outcome, onward}
 use Rattle.rules.specs.Bytes.{lineFeed, split}
 use Rattle.rules.specs.JobText.{nodes, lineOf, withLine, withLines, firstLine, allLines}
 use Rattle.theorems.proofs.TextPieces.{split-first}
-use Rattle.theorems.proofs.TextSteps.{read}
+use Rattle.theorems.specs.TextRest.{withRest}
 use Rattle.job.specs.declared.Job.{Job as Counts}
 use Rattle.job.specs.declared.Refusal.{Refusal}
 use Rattle.job.specs.declared.Refusal.the-variants.{BadForm, Size}
@@ -26,7 +26,7 @@ use Rattle.job_text.specs.SoFar.{soFar, jobRead, Room, Within, Took}
 use Rattle.job_text.proofs.Adding.{took-refusal}
 
 -- the first of the pieces is a line, if there is another
-read-line : (n : ℕ) (j : Job) (p bs : List ℕ) → read n j (p ∷ split lineFeed bs) ≡ onward (withLine n j (lineOf p)) (λ k. read (suc n) k (split lineFeed bs))
+read-line : (n : ℕ) (j : Job) (p bs : List ℕ) → withRest n j (p ∷ split lineFeed bs) ≡ onward (withLine n j (lineOf p)) (λ k. withRest (suc n) k (split lineFeed bs))
 unfolding withLines
 read-line n j p bs = let (q, qs, e) = split-first lineFeed bs in rw e
 
@@ -48,10 +48,10 @@ pub record Going (text : List ℕ) (whole : Outcome Job) (lent now : Lists) (cur
   pub room : Room now
   pub within : Within job
   pub line : cursor .line ≤ cursor .at + 1
-  pub left : whole ≡ read (cursor .line) (soFar job now) (split lineFeed (drop (cursor .at) text))
+  pub left : whole ≡ withRest (cursor .line) (soFar job now) (split lineFeed (drop (cursor .at) text))
 
 pub going : (text : List ℕ) (lent : Lists) (first : Lines) (begun : Counts) → length text ≤ textMost → Room lent → Within begun → first .line ≤ first .at + 1
-    → Going text (read (first .line) (soFar begun lent) (split lineFeed (drop (first .at) text))) lent lent first begun
+    → Going text (withRest (first .line) (soFar begun lent) (split lineFeed (drop (first .at) text))) lent lent first begun
 going text lent first begun short room within line = record {
   short = short;
   same = record { origins = refl; ends = refl; sources = refl; stops = refl; hops = refl };
@@ -74,7 +74,7 @@ module _ {text : List ℕ} {whole : Outcome Job} {lent now : Lists} {cursor : Li
 
   module _ {begin end : ℕ} {next : Lines} (w : IsWhole text cursor begin end next) {told : Reading} {after : Lists}
       (t : Took (withLine (cursor .line) (soFar job now) (lineOf (take (end - begin) (drop begin text)))) told after) where
-    line-left : whole ≡ onward (jobRead told after) (λ k. read (suc (cursor .line)) k (split lineFeed (drop (next .at) text)))
+    line-left : whole ≡ onward (jobRead told after) (λ k. withRest (suc (cursor .line)) k (split lineFeed (drop (next .at) text)))
     line-left = g .left ∙ rw (w .left, t .read) (read-line _ _ _ _)
 
     pub going-refused : {refusal : Refusal} {last : Lists} → told ≡ Refused refusal → Took whole (Refused refusal) last
@@ -114,7 +114,7 @@ top-end text e = took-refusal (rw (end-line text topLine e))
 -- a whole line at the top, and the lines below it
 module _ {text : List ℕ} {begin end : ℕ} {next : Lines} (w : IsWhole text topLine begin end next) {told : Reading} {after : Lists}
     (t : Took (firstLine (lineOf (take (end - begin) (drop begin text)))) told after) where
-  below-first : allLines (split lineFeed text) ≡ onward (jobRead told after) (λ j. read (next .line) j (split lineFeed (drop (next .at) text)))
+  below-first : allLines (split lineFeed text) ≡ onward (jobRead told after) (λ j. withRest (next .line) j (split lineFeed (drop (next .at) text)))
   below-first =
       let (q, qs, e) = split-first lineFeed (drop (next .at) text) in
       rw (w .left, w .next-line, e, t .read)
@@ -122,7 +122,7 @@ module _ {text : List ℕ} {begin end : ℕ} {next : Lines} (w : IsWhole text to
   pub first-refused : {refusal : Refusal} {last : Lists} → told ≡ Refused refusal → Took (allLines (split lineFeed text)) (Refused refusal) last
   first-refused d = took-refusal (below-first ∙ rw d)
 
-  pub first-on : {counts : Counts} → told ≡ Read counts → allLines (split lineFeed text) ≡ read (next .line) (soFar counts after) (split lineFeed (drop (next .at) text))
+  pub first-on : {counts : Counts} → told ≡ Read counts → allLines (split lineFeed text) ≡ withRest (next .line) (soFar counts after) (split lineFeed (drop (next .at) text))
   first-on d = below-first ∙ rw d
 
   pub first-within : {counts : Counts} → told ≡ Read counts → Within counts × (next .line ≤ next .at + 1)

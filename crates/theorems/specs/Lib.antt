@@ -2,3 +2,4 @@ pub mod Demands
 pub mod Jobs
 pub mod Simple
 pub mod TextRest
+pub mod TextNumbers

@@ -1,9 +1,8 @@
 -- `job_text::fill` meets its contract: what is read stays in the first places, and nothing of a text that is refused.
 use denote.Ref.{now}
-use Rattle.rules.specs.Bytes.{lineFeed, split}
+use Rattle.theorems.proofs.TextRefusals.{text-lines-refused}
 use Rattle.job_text.specs.Told.{lists}
 use Rattle.job_text.proofs.Clearing.{cleared}
-use Rattle.job_text.proofs.Late.{late-all}
 use Rattle.job_text.proofs.LineByLine.{SameLengths, room-kept}
 use borrow.Author.Needs.{needs}
 use Rattle.job_text.proofs.fill.Statement.{statement}
@@ -47,7 +46,7 @@ returns c =
     let r = c .before .before .before .before .before .before .before .before .before .before .before .before .before .before .before .before .before .before .before .before .before .before .before .before .before .before .before in
     let s = same r in
     let a = r .before .before .before .before .before .before .before .before .before .before .before .before in
-    cleared _ (late-all (split lineFeed (now (a .args .text)))) (r .read-lines .ensures) (room-kept s (a .pre .1)) s (rw (← c .before .before .before .before .before .before .before .before .before .before .before .before .before .before .before .before .kept .ensures) (c .before .before .before .before .before .before .before .before .before .before .clear-past .ensures))
+    cleared _ (text-lines-refused (now (a .args .text))) (r .read-lines .ensures) (room-kept s (a .pre .1)) s (rw (← c .before .before .before .before .before .before .before .before .before .before .before .before .before .before .before .before .kept .ensures) (c .before .before .before .before .before .before .before .before .before .before .clear-past .ensures))
 
 pub fill-spec : {M : Type 1} → statement M
 fill-spec =
