@@ -9,7 +9,7 @@ use Rattle.rules.specs.Outcome.{Outcome, is, refused, fine, onward}
 use Rattle.rules.specs.Answers.{lentAfter, planned, written}
 use Rattle.theorems.proofs.Verdicts.{refused-not-is, refused-for, onward-of}
 use Rattle.theorems.proofs.Accepted.{tables-fine-iff, length-paths}
-use Rattle.theorems.proofs.Starts.{length-greedy}
+use Rattle.theorems.proofs.Demands.{starts-count}
 use Rattle.job.specs.declared.Refusal.{Refusal}
 use Rattle.job.specs.declared.Verdict.{Verdict}
 use Rattle.job.specs.declared.Verdict.the-variants.{Fine, Refused}
@@ -34,7 +34,7 @@ module _ (j : Job) (places : ℕ) {v : Verdict} {lent after : List ℕ} (p : Pla
   plan-fits e =
       let fine = rw e at p in
       let accepted = planned-greedy j places lent after fine .0 in
-      omega (arith, length-take (length (paths j)) after, ap length (plan-writes-greedy j places lent after fine), length-greedy j, length-paths j, tables-fine-iff j .0 accepted .stops-count)
+      omega (arith, length-take (length (paths j)) after, ap length (plan-writes-greedy j places lent after fine), starts-count j (tables-fine-iff j .0 accepted))
 
   pub plan-written : v ≡ Fine → {w : Written} {text : List ℕ} → WrittenAs (written j (take (length (j .sources) - 0) after) (length room)) w room text → WrittenAs (inARow j places (length room)) w room text
   plan-written e w =

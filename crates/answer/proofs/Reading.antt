@@ -17,7 +17,7 @@ use Rattle.rules.specs.Answers.{inRoom, planned, written, answer, answered, len
 use Rattle.theorems.proofs.Verdicts.{refused-not-is, refused-for, is-iff, onward-is}
 use Rattle.theorems.proofs.TextJobs.{reading-job, reading-accepted}
 use Rattle.theorems.proofs.Started.{greedy-started}
-use Rattle.theorems.proofs.Rows.{planned-iff}
+use Rattle.theorems.proofs.AnswersInARow.{planned-iff}
 use Rattle.job.specs.declared.Job.{Job as Counts}
 use Rattle.job.specs.declared.Refusal.{Refusal}
 use Rattle.job.specs.Lists.{jobOf}

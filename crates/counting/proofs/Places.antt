@@ -3,11 +3,12 @@ use mathlib.Core.Path.{_≡_, refl, sym, ap}
 use mathlib.Core.List.{List, [], _∷_, _++_, map, Memᴰ·append-left, List·Memᴰ, List·Memᴰ·head as here, List·Memᴰ·tail as there}
 use mathlib.Core.Logic.{_⊎_, inl, inr, ⊎-map}
 use mathlib.Core.Option.{Option, none, some}
-use Prim.Native.Nat.{ℕ, zero, suc, _≤_, _<_}
+use Prim.Native.Nat.{ℕ, zero, suc, _+_, _≤_, _<_}
+use native.Mathlib.Numerals.{add-one}
 use native.Mathlib.Omega.{arith}
 use native.Mathlib.Nat.{not-suc-le-zero, le-of-suc-le-suc}
 use lib.ListN.{length, getD, take, drop, getElem?, take-append-drop, length-take}
-use lib.Seq.{take-length}
+use lib.Seq.{take-length, drop-cons}
 
 module _ {A : Type 0} where
   pub some-same : {a b : A} → some a ≡ some b → a ≡ b
@@ -60,6 +61,10 @@ module _ {A : Type 0} where
   pub at-append-seam : (xs : List A) (y : A) (ys : List A) → getElem? (xs ++ y ∷ ys) (length xs) ≡ some y
   at-append-seam [] y ys = refl
   at-append-seam (x ∷ xs) y ys = at-append-seam xs y ys
+
+-- where a list goes on at a place
+pub from-place : (xs : List ℕ) (i : ℕ) → i < length xs → drop i xs ≡ getD xs i 0 ∷ drop (i + 1) xs
+from-place xs i h = rw (add-one, drop-cons xs i 0)
 
 -- what stands in a list with one more at its end
 pub at-snoc : {A : Type 0} (xs : List A) (y : A) (i : ℕ) {x : A} → getElem? (xs ++ (y ∷ [])) i ≡ some x → (getElem? xs i ≡ some x) ⊎ ((i ≡ length xs) × (y ≡ x))

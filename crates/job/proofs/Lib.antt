@@ -1,2 +1,3 @@
-pub mod Laws
+pub mod AfterVerdict
+pub mod VerdictLoops
 pub mod OneAnswer

@@ -20,7 +20,7 @@ use Rattle.job.specs.declared.Verdict.{Verdict}
 use Rattle.job.specs.declared.Verdict.the-variants.{Fine, Refused as VerdictRefused}
 use Rattle.job.specs.Lists.{networkOf}
 use Rattle.job.specs.Told.{refusalOf, verdictOf}
-use Rattle.job.proofs.Laws.{after-refusal, after-fine}
+use Rattle.job.proofs.AfterVerdict.{after-refusal, after-fine}
 use Rattle.job_text.specs.declared.Reading.the-variants.{Read, Refused}
 use Rattle.job_text.specs.Told.{Lists, lists}
 use Rattle.job_text.specs.SoFar.{soFar, Room, Within, Took}

@@ -1,6 +1,6 @@
 pub mod Accepts
 pub mod Adding
-pub mod Answering
+pub mod ReaderAnswers
 pub mod Clearing
 pub mod LineByLine
 pub mod OneAnswer

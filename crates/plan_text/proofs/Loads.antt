@@ -12,7 +12,7 @@ use lib.Seq.{getD-set-same, getD-set-other, drop-append-le, length-take-le, slic
 use borrow.Author.Tests.{eqb-true, eqb-false}
 use Rattle.counting.specs.Count.{bit, anyOf, among, occurs, sumOf, maxBelow}
 use Rattle.counting.proofs.Sums.{bit-le-one, bit-or, sum-le, sum-same, sum-const, sum-append, sum-le-any}
-use Rattle.counting.proofs.Places.{at-mem, at-getD}
+use Rattle.counting.proofs.Places.{from-place, at-mem, at-getD}
 use Rattle.rules.specs.Sizes.{linksMost}
 use Rattle.rules.specs.Network.{Job, pathsFrom, paths}
 use Rattle.rules.specs.Tables.{stopsAgree}
@@ -21,7 +21,6 @@ use Rattle.theorems.specs.Jobs.{IsJob}
 use Rattle.theorems.proofs.Verdicts.{leb-iff, and-iff}
 use Rattle.theorems.proofs.Accepted.{job-stops-agree, hops-from}
 use Rattle.theorems.proofs.Demands.{packets-simple}
-use Rattle.job.proofs.Laws.{from-place}
 use Rattle.plan_text.specs.HopsInLists.{Linked, mostOften}
 
 pub occurs-le : (link : ℕ) (hops : List ℕ) → occurs link hops ≤ length hops

@@ -13,7 +13,7 @@ use Rattle.rules.specs.Counts.{endOf, routingTime}
 use Rattle.rules.specs.Bytes.{letterS, lineText}
 use Rattle.rules.specs.PlanText.{packetLines}
 use Rattle.theorems.proofs.OneStep.{travel-hops}
-use Rattle.job.proofs.Laws.{from-place}
+use Rattle.counting.proofs.Places.{from-place}
 use Rattle.lines.specs.Put.{Put, longestLine}
 use Rattle.lines.proofs.Putting.{put-rest}
 use Rattle.plan_text.specs.HopsInLists.{hopCount, StopsOf}

@@ -24,7 +24,7 @@ use Rattle.job.specs.declared.Refusal.the-variants.{ShortRoom}
 use Rattle.job.specs.declared.Verdict.{Verdict}
 use Rattle.job.specs.declared.Verdict.the-variants.{Fine, Refused}
 use Rattle.job.specs.Told.{refusalOf, verdictOf}
-use Rattle.job.proofs.Laws.{after-refusal, after-fine}
+use Rattle.job.proofs.AfterVerdict.{after-refusal, after-fine}
 use Rattle.lines.specs.Put.{Put}
 use Rattle.lines.proofs.Putting.{put-then}
 use Rattle.plan_text.specs.HopsInLists.{StopsOf, mostOften, Writable, ListsOf}

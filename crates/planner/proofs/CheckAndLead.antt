@@ -18,7 +18,7 @@ use Rattle.job.specs.declared.Refusal.{Refusal}
 use Rattle.job.specs.declared.Verdict.{Verdict}
 use Rattle.job.specs.declared.Verdict.the-variants.{Fine, Refused}
 use Rattle.job.specs.Told.{refusalOf, verdictOf}
-use Rattle.job.proofs.Laws.{after-refusal, after-fine}
+use Rattle.job.proofs.AfterVerdict.{after-refusal, after-fine}
 use Rattle.planner.specs.PacketsInLists.{pathClaims}
 
 module _ (j : Job) (starts : List ℕ) (told : Verdict) (same : verdictOf told ≡ startedVerdict j starts) where

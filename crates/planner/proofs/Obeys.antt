@@ -12,7 +12,7 @@ use Rattle.rules.specs.Tables.{tables}
 use Rattle.rules.specs.Answers.{lentAfter, planned}
 use Rattle.theorems.specs.Demands.{Bounded}
 use Rattle.theorems.proofs.Verdicts.{refused-not-is}
-use Rattle.theorems.proofs.Rows.{planned-iff}
+use Rattle.theorems.proofs.AnswersInARow.{planned-iff}
 use Rattle.theorems.proofs.Accepted.{tables-fine-iff, length-packets}
 use Rattle.theorems.proofs.Starts.{length-greedy, greedy-starts, greedy-front-packets}
 use Rattle.theorems.proofs.Demands.{tables-bounded}
@@ -32,7 +32,8 @@ module _ (j : Job) (room : ℕ) (lent after : List ℕ) (p : PlannedAs (planned 
   pub plan-writes-greedy : take (length (paths j)) after ≡ greedy j
   unfolding lentAfter
   plan-writes-greedy =
-      let count : length (greedy j) ≡ length (paths j) = length-greedy j ∙ length-packets j (tables-fine-iff j .0 (planned-greedy .0)) in
+      let job = tables-fine-iff j .0 (planned-greedy .0) in
+      let count : length (greedy j) ≡ length (paths j) = length-greedy j ∙ length-packets j job in
       rw (p .list, planned-greedy .1, ← count) (take-append-seam (greedy j) _)
 
   pub plan-writes-starts : Starts (Takes (j .network)) (packets j) (take (length (paths j)) after)

@@ -19,7 +19,7 @@ use Rattle.job.specs.declared.Refusal.the-variants.{ShortRoom}
 use Rattle.job.specs.declared.Verdict.{Verdict}
 use Rattle.job.specs.declared.Verdict.the-variants.{Fine, Refused}
 use Rattle.job.specs.Told.{refusalOf, verdictOf}
-use Rattle.job.proofs.Laws.{after-refusal, after-fine}
+use Rattle.job.proofs.AfterVerdict.{after-refusal, after-fine}
 use Rattle.planner.specs.PacketsInLists.{SimplePaths, greedyStarts}
 use Rattle.planner.specs.Told.{PlannedAs}
 use Rattle.planner.proofs.Filling.{length-greedy-starts}

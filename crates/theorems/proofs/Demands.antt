@@ -21,7 +21,7 @@ use Rattle.theorems.proofs.Placements.{placed-by-at, take-placed-by}
 use Rattle.theorems.proofs.Packets.{pathsOf}
 use Rattle.theorems.proofs.Starts.{length-greedy, greedy-first}
 use Rattle.theorems.proofs.Paths.{path-links-exist, path-once}
-use Rattle.theorems.proofs.Accepted.{tables-fine-iff, hops-in-all, job-path, job-delayed, job-packet-paths, length-packets}
+use Rattle.theorems.proofs.Accepted.{tables-fine-iff, hops-in-all, job-path, job-delayed, job-packet-paths, length-paths, length-packets}
 use Rattle.theorems.proofs.TextJobs.{reading-job}
 use Rattle.theorems.proofs.Counts.{travel-le-dilation}
 use Rattle.theorems.proofs.Travels.{hops-le-travel}
@@ -55,8 +55,12 @@ module _ (j : Job) (job : IsJob j) where
       (start-le-meetings-with (j .network) q (linkCount j) (take k (greedy j)) (take k (packets j)) s (packets-once k)
       (rw same at (packets-simple p (at-mem (paths j) k f))) (start-first k s q e is-q))
 
+  -- a start for each source
+  pub starts-count : length (greedy j) ≡ length (j .sources)
+  starts-count = omega (arith, length-greedy j, length-packets j job, length-paths j, job .stops-count)
+
   path-of : (k s : ℕ) → getElem? (greedy j) k ≡ some s → getElem? (paths j) k ≡ some (getD (paths j) k [])
-  path-of k s e = at-getD (paths j) k [] (omega (arith, at-below (greedy j) k e, length-greedy j, length-packets j job))
+  path-of k s e = at-getD (paths j) k [] (omega (arith, at-below (greedy j) k e, starts-count, length-paths j, job .stops-count))
 
   pub job-bounded : Bounded j
   unfolding meetings congestion dilation

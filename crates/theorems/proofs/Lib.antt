@@ -21,10 +21,10 @@ pub mod Started
 pub mod Checked
 pub mod TextPieces
 pub mod TextLines
-pub mod TextSteps
+pub mod TextLinesAccepted
 pub mod TextJobs
 pub mod TextFronts
 pub mod TextWritten
 pub mod TextExact
 pub mod TextRefusals
-pub mod Rows
+pub mod AnswersInARow

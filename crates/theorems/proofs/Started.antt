@@ -24,12 +24,11 @@ use Rattle.theorems.specs.Jobs.{IsJob, IsStarted}
 use Rattle.theorems.proofs.Verdicts.{leb-iff, eqb-iff, is-iff, must-iff, then-iff, then-is-iff, onward-is}
 use Rattle.theorems.proofs.TextJobs.{reading-accepted}
 use Rattle.theorems.proofs.Paths.{path-distinct}
-use Rattle.theorems.proofs.Accepted.{tables-fine-iff, length-paths, length-packets, job-path, job-delayed}
+use Rattle.theorems.proofs.Accepted.{tables-fine-iff, length-paths, job-path, job-delayed}
 use Rattle.theorems.proofs.Travels.{Delayed}
 use Rattle.theorems.proofs.PlanLength.{plan-length-le}
 use Rattle.theorems.proofs.Leads.{entry-at-enters, enters-at-entry, lead-in-range, no-lead-iff, sub-zero-iff}
-use Rattle.theorems.proofs.Starts.{length-greedy}
-use Rattle.theorems.proofs.Demands.{job-bounded}
+use Rattle.theorems.proofs.Demands.{starts-count, job-bounded}
 
 starts-fine-iff : (k : ℕ) (ss : List ℕ) → (startsVerdict k ss ≡ fine) ↔ ((s : ℕ) → List·Memᴰ s ss → s ≤ startMost)
 unfolding startsVerdict
@@ -62,7 +61,7 @@ greedy-started j e =
     let job = tables-fine-iff j .0 e in
     started-fine-iff j (greedy j) .1 (record {
       job = job;
-      count = omega (arith, length-greedy j, length-packets j job, length-paths j, job .stops-count);
+      count = starts-count j job;
       in-time = λ s m. let (k, at) = mem-at m in omega (arith, job-bounded j job .start-le-most k s at);
     })
 

@@ -24,7 +24,7 @@ use Rattle.theorems.proofs.Accepted.{hops-from, job-stops-agree}
 use Rattle.theorems.proofs.TextJobs.{reading-job}
 use Rattle.theorems.proofs.TextPieces.{split-first}
 use Rattle.theorems.proofs.TextLines.{Sayable, line-of-bytes, split-line}
-use Rattle.theorems.proofs.TextSteps.{reading-lines-iff, first-line-iff, link-line-iff, packet-line-iff}
+use Rattle.theorems.proofs.TextLinesAccepted.{reading-lines-iff, first-line-iff, link-line-iff, packet-line-iff}
 use Rattle.theorems.proofs.TextWritten.{reading-text}
 
 -- ---- the hops up to one stop, and those from there to the next

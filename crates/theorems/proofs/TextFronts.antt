@@ -14,7 +14,7 @@ use Rattle.rules.specs.JobText.{lineOf, withLine, withLines, firstLine, allLine
 use Rattle.theorems.specs.TextRest.{withRest}
 use Rattle.theorems.proofs.Verdicts.{refused-not-is, is-iff, eqb-iff, must-iff, then-iff, onward-is}
 use Rattle.theorems.proofs.TextPieces.{Ended, split-first, split-append, split-ended}
-use Rattle.theorems.proofs.TextSteps.{reading-lines-iff}
+use Rattle.theorems.proofs.TextLinesAccepted.{reading-lines-iff}
 use Rattle.theorems.proofs.TextJobs.{reading-job, text-front}
 use Rattle.theorems.proofs.Starts.{length-greedy-claims, greedy-front}
 

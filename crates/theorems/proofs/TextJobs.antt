@@ -19,7 +19,7 @@ use Rattle.rules.specs.JobText.{Line, nodes, link, packet, bad, lineOf, blank, 
 use Rattle.theorems.specs.Jobs.{IsLink, IsPacket, IsJob}
 use Rattle.theorems.proofs.Verdicts.{leb-iff, eqb-iff, and-iff, is-iff, refused-not-is, onward-is, must-iff, then-iff}
 use Rattle.theorems.proofs.Packets.{packets-of-snoc}
-use Rattle.theorems.proofs.TextSteps.{reading-lines-iff, first-line-iff, link-line-iff, packet-line-iff}
+use Rattle.theorems.proofs.TextLinesAccepted.{reading-lines-iff, first-line-iff, link-line-iff, packet-line-iff}
 use Rattle.theorems.proofs.Accepted.{at-each-snoc, stops-agree-iff, tables-fine-iff, job-stops-agree, length-paths, hops-from}
 
 -- one more stop, at the new end of the hops

@@ -16,7 +16,7 @@ use Rattle.theorems.proofs.Accepted.{length-paths}
 use Rattle.theorems.proofs.TextJobs.{goes-on-line, first-job, paths-with-packet}
 use Rattle.theorems.proofs.TextPieces.{eachAfter, split-joined}
 use Rattle.theorems.proofs.TextLines.{Says, line-says}
-use Rattle.theorems.proofs.TextSteps.{reading-lines-iff, first-line-iff, link-line-iff, packet-line-iff}
+use Rattle.theorems.proofs.TextLinesAccepted.{reading-lines-iff, first-line-iff, link-line-iff, packet-line-iff}
 
 -- ---- the text of a job with one line more
 

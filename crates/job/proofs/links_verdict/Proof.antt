@@ -5,7 +5,7 @@ use native.Mathlib.Omega.{arith}
 use borrow.Author.Needs.{needs}
 use lib.ListN.{length}
 use Rattle.rules.specs.Tables.{linksVerdict}
-use Rattle.job.proofs.Laws.{links-left, links-refused, links-on, links-done}
+use Rattle.job.proofs.VerdictLoops.{links-left, links-refused, links-on, links-done}
 use Rattle.job.proofs.links_verdict.Statement.{statement}
 use Rattle.job.proofs.links_verdict.Tie as tie
 

@@ -9,7 +9,7 @@ use denote.Ref.{now}
 use Rattle.rules.specs.Network.{paths}
 use Rattle.rules.specs.Tables.{packetsVerdict, stopsAgree}
 use Rattle.job.specs.Lists.{networkOf, jobOf}
-use Rattle.job.proofs.Laws.{stops-part, packets-left, packets-refused, packets-on, packets-done}
+use Rattle.job.proofs.VerdictLoops.{stops-part, packets-left, packets-refused, packets-on, packets-done}
 use Rattle.job.proofs.packets_verdict.Statement.{statement}
 use Rattle.job.proofs.packets_verdict.Tie as tie
 

@@ -5,7 +5,7 @@ use borrow.Author.Needs.{needs}
 use borrow.Author.Tests.{eq-eqb, ne-eqb}
 use Rattle.theorems.proofs.Accepted.{tables-fine-iff}
 use Rattle.rules.specs.Answers.{startedVerdict}
-use Rattle.job.proofs.Laws.{refusal-stays, after-fine}
+use Rattle.job.proofs.AfterVerdict.{refusal-stays, after-fine}
 use Rattle.job.proofs.started.Statement.{statement}
 use Rattle.job.proofs.started.Tie as tie
 

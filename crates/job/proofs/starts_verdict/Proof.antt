@@ -5,7 +5,7 @@ use native.Mathlib.Omega.{arith}
 use borrow.Author.Needs.{needs}
 use lib.ListN.{length, drop}
 use Rattle.rules.specs.Answers.{startsVerdict}
-use Rattle.job.proofs.Laws.{starts-late, starts-on, starts-done}
+use Rattle.job.proofs.VerdictLoops.{starts-late, starts-on, starts-done}
 use Rattle.job.proofs.starts_verdict.Statement.{statement}
 use Rattle.job.proofs.starts_verdict.Tie as tie
 

@@ -5,7 +5,7 @@ use native.Mathlib.Omega.{arith}
 use borrow.Author.Needs.{needs}
 use lib.ListN.{length, drop}
 use Rattle.rules.specs.Tables.{stopsAgree}
-use Rattle.job.proofs.Laws.{stops-fall, stops-on, stops-done}
+use Rattle.job.proofs.VerdictLoops.{stops-fall, stops-on, stops-done}
 use Rattle.job.proofs.stops_agree.Statement.{statement}
 use Rattle.job.proofs.stops_agree.Tie as tie
 

@@ -9,7 +9,8 @@ use lib.ListN.{length}
 use Rattle.rules.specs.Network.{Job}
 use Rattle.rules.specs.Tables.{stopsAgree, tables}
 use Rattle.job.specs.Lists.{jobOf}
-use Rattle.job.proofs.Laws.{job-fits, links-then-packets, refusal-stays, after-fine, job-within, tables-no-ends, tables-no-stops, tables-stops-fall, tables-oversize, tables-on}
+use Rattle.job.proofs.AfterVerdict.{refusal-stays, after-fine}
+use Rattle.job.proofs.VerdictLoops.{job-fits, links-then-packets, job-within, tables-no-ends, tables-no-stops, tables-stops-fall, tables-oversize, tables-on}
 use Rattle.job.proofs.tables.Statement.{statement}
 use Rattle.job.proofs.tables.Tie as tie
 

@@ -6,7 +6,7 @@ use borrow.Author.Needs.{needs}
 use borrow.Author.Tests.{eq-eqb, ne-eqb}
 use denote.Ref.{now}
 use lib.ListN.{length, getD}
-use Rattle.job.proofs.Laws.{seen-from, seen-here, seen-on, seen-none}
+use Rattle.job.proofs.VerdictLoops.{seen-from, seen-here, seen-on, seen-none}
 use Rattle.job.proofs.visited.Statement.{statement}
 use Rattle.job.proofs.visited.Tie as tie
 

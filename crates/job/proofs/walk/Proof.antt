@@ -8,7 +8,7 @@ use borrow.Author.Count.{below-none, below-more}
 use lib.ListN.{length, getD}
 use Rattle.rules.specs.Tables.{walk}
 use Rattle.job.specs.Lists.{networkOf}
-use Rattle.job.proofs.Laws.{walk-left, walk-begins, walk-no-origin, walk-no-end, walk-not-leaving, walk-revisited, walk-on, walk-done}
+use Rattle.job.proofs.VerdictLoops.{walk-left, walk-begins, walk-no-origin, walk-no-end, walk-not-leaving, walk-revisited, walk-on, walk-done}
 use Rattle.job.proofs.walk.Statement.{statement}
 use Rattle.job.proofs.walk.Tie as tie
 

@@ -1,7 +1,7 @@
 -- `job_text::read` meets its contract: 1, then 10, then the lines from the top.
 use mathlib.Core.Path.{sym, _∙_}
 use borrow.Author.Tests.{not-true, not-false}
-use Rattle.job_text.proofs.Answering.{room-of, too-long, too-short, taken-up, text-too-long, short-room}
+use Rattle.job_text.proofs.ReaderAnswers.{room-of, too-long, too-short, taken-up, text-too-long, short-room}
 use borrow.Author.Needs.{needs}
 use Rattle.job_text.proofs.read.Statement.{statement}
 use Rattle.job_text.proofs.read.Tie as tie

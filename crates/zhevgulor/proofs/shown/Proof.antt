@@ -1,7 +1,7 @@
 -- `zhevgulor::shown` meets its contract: four numbers in the first four places, or the room is too short.
 use native.Mathlib.Omega.{arith}
 use lib.ListN.{length-set}
-use Rattle.zhevgulor.proofs.Laws.{four-short, four-written}
+use Rattle.zhevgulor.proofs.ToldToC.{four-short, four-written}
 use borrow.Author.Needs.{needs}
 use Rattle.zhevgulor.proofs.shown.Statement.{statement}
 use Rattle.zhevgulor.proofs.shown.Tie as tie

@@ -1,5 +1,5 @@
 -- `zhevgulor::zhevgulor_check` meets its contract: the check's answer, a clash in four numbers of the lent list.
-use Rattle.zhevgulor.proofs.Laws.{check-clear, check-refused, check-clash}
+use Rattle.zhevgulor.proofs.ToldToC.{check-clear, check-refused, check-clash}
 use borrow.Author.Needs.{needs}
 use Rattle.zhevgulor.proofs.zhevgulor_check.Statement.{statement}
 use Rattle.zhevgulor.proofs.zhevgulor_check.Tie as tie

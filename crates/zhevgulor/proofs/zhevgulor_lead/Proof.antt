@@ -1,5 +1,5 @@
 -- `zhevgulor::zhevgulor_lead` meets its contract: the lead, or the refusal in two numbers.
-use Rattle.zhevgulor.proofs.Laws.{lead-told, lead-refused}
+use Rattle.zhevgulor.proofs.ToldToC.{lead-told, lead-refused}
 use borrow.Author.Needs.{needs}
 use Rattle.zhevgulor.proofs.zhevgulor_lead.Statement.{statement}
 use Rattle.zhevgulor.proofs.zhevgulor_lead.Tie as tie

@@ -1,5 +1,5 @@
 -- `zhevgulor::zhevgulor_plan` meets its contract: the answer from bytes, told in two numbers.
-use Rattle.zhevgulor.proofs.Laws.{text-told}
+use Rattle.zhevgulor.proofs.ToldToC.{text-told}
 use borrow.Author.Needs.{needs}
 use Rattle.zhevgulor.proofs.zhevgulor_plan.Statement.{statement}
 use Rattle.zhevgulor.proofs.zhevgulor_plan.Tie as tie

@@ -1,5 +1,5 @@
 -- `zhevgulor::zhevgulor_plan_text` meets its contract: the writer's answer, told in two numbers.
-use Rattle.zhevgulor.proofs.Laws.{text-told}
+use Rattle.zhevgulor.proofs.ToldToC.{text-told}
 use borrow.Author.Needs.{needs}
 use Rattle.zhevgulor.proofs.zhevgulor_plan_text.Statement.{statement}
 use Rattle.zhevgulor.proofs.zhevgulor_plan_text.Tie as tie

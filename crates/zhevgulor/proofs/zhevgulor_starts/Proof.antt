@@ -1,6 +1,6 @@
 -- `zhevgulor::zhevgulor_starts` meets its contract: the planner's answer, told in two numbers.
 use native.Mathlib.Omega.{arith}
-use Rattle.zhevgulor.proofs.Laws.{planned-few, starts-told, starts-refused}
+use Rattle.zhevgulor.proofs.ToldToC.{planned-few, starts-told, starts-refused}
 use borrow.Author.Needs.{needs}
 use Rattle.zhevgulor.proofs.zhevgulor_starts.Statement.{statement}
 use Rattle.zhevgulor.proofs.zhevgulor_starts.Tie as tie

@@ -1,6 +1,6 @@
 -- `zhevgulor::zhevgulor_tables` meets its contract: the verdict on the tables, told in two numbers.
 use mathlib.Core.Path.{_∙_}
-use Rattle.zhevgulor.proofs.Laws.{tables-fine, tables-refused}
+use Rattle.zhevgulor.proofs.ToldToC.{tables-fine, tables-refused}
 use borrow.Author.Needs.{needs}
 use Rattle.zhevgulor.proofs.zhevgulor_tables.Statement.{statement}
 use Rattle.zhevgulor.proofs.zhevgulor_tables.Tie as tie

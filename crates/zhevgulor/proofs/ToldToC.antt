@@ -18,8 +18,8 @@ use Rattle.rules.specs.Answers.{inRoom, lentAfter, planned, checked, led}
 use Rattle.rules.specs.Sizes.{packetsMost, leadMost}
 use Rattle.rules.specs.Greedy.{greedy}
 use Rattle.theorems.proofs.Verdicts.{refused-not-is, refused-for}
-use Rattle.theorems.proofs.Accepted.{tables-fine-iff, length-paths}
-use Rattle.theorems.proofs.Starts.{length-greedy}
+use Rattle.theorems.proofs.Accepted.{tables-fine-iff}
+use Rattle.theorems.proofs.Demands.{starts-count}
 use Rattle.theorems.proofs.Started.{led-in-range}
 use Rattle.job.specs.declared.Refusal.{Refusal}
 use Rattle.job.specs.declared.Refusal.the-variants.{TextTooLong, BadForm, Size, NoNode, SelfLink, NoLink, NotLeaving, Revisited, Disagree, ShortRoom, StartCount, LateStart, NoLead}
@@ -75,7 +75,7 @@ module _ (j : Job) (room : ℕ) (v : Verdict) (lent after : List ℕ) (p : Plann
   pub starts-told : (told : Answer) → v ≡ Fine → told ≡ answerFor (is (length (j .sources))) → LentAs (planned j room) told lent after
   starts-told told e t =
       let job = tables-fine-iff j .0 (fine-greedy e .0) in
-      record { answered = t ∙ rw (fine-greedy e .1) (ap {B = Answer} (λ n. answerFor (is n)) (sym (length-greedy j ∙ length-paths j ∙ job .stops-count))); list = p .list }
+      record { answered = t ∙ rw (fine-greedy e .1) (ap {B = Answer} (λ n. answerFor (is n)) (sym (starts-count j job))); list = p .list }
 
   pub starts-refused : (r : Refusal) (told : Answer) → v ≡ Refused r → told ≡ answerFor (refusalOf r) → LentAs (planned j room) told lent after
   starts-refused r told e t = record { answered = t ∙ ap answerFor (go (planned j room) (rw e at (p .verdict))); list = p .list }

@@ -1,6 +1,6 @@
--- Laws of the rules' verdicts as the code meets them. Of each loop, what the rest of its lists is at a turn and after the
+-- The rules' verdicts on lists as the code comes by them. Of each loop, what the rest of its lists is at a turn and after the
 -- last; of each chain of tests, a law for every way out.
-use mathlib.Core.Path.{_≡_, refl, sym, ap, _∙_}
+use mathlib.Core.Path.{_≡_, refl, sym, _∙_}
 use mathlib.Core.Bool.{Bool, true, false, not, _&&_, _||_}
 use mathlib.Core.List.{List, [], _∷_, _++_, map-append}
 use Prim.Native.Nat.{ℕ, zero, suc, _+_, _-_, _≤_, _<_}
@@ -10,42 +10,28 @@ use native.Mathlib.Omega.{arith}
 use borrow.Author.Tests.{leb-true, lt-leb, le-leb, eq-eqb, ne-eqb}
 use lib.Dec.{eqb, leb}
 use lib.ListN.{length, getD, take, drop, drop-of-length-le}
-use lib.Seq.{take-suc, drop-cons, getD-take, length-take-le, take-nil, slice}
+use lib.Seq.{take-suc, getD-take, length-take-le, take-nil, slice}
 use Rattle.counting.specs.Count.{among}
 use Rattle.counting.proofs.Tests.{and-left, and-right}
-use Rattle.counting.proofs.Places.{at-getD, at-none}
+use Rattle.counting.proofs.Places.{from-place, at-getD, at-none}
 use Rattle.theorems.proofs.Accepted.{hops-from}
 use Rattle.theorems.proofs.Verdicts.{onward-then}
 use Rattle.rules.specs.Sizes.{nodesMost, linksMost, packetsMost, hopsMost, startMost}
 use Rattle.rules.specs.Network.{Network, Job, linkAt, pathsFrom, paths}
-use Rattle.rules.specs.Outcome.{Outcome, Verdict, fine, refused, must, _then_}
+use Rattle.rules.specs.Outcome.{Verdict, fine, refused, must, _then_}
 use Rattle.rules.specs.Tables.{linkVerdict, linksVerdict, walk, packetVerdict, packetsVerdict, stopsAgree, tables}
 use Rattle.rules.specs.Answers.{startsVerdict}
 use Rattle.job.specs.declared.Refusal.{Refusal}
 use Rattle.job.specs.declared.Verdict.{Verdict as Told}
 use Rattle.job.specs.declared.Verdict.the-variants.{Fine, Refused}
 use Rattle.job.specs.Lists.{networkOf, entered, sizesFit}
-use Rattle.job.specs.Told.{refusalOf, verdictOf}
-
--- a check that refuses is the whole answer; after one that does not, what follows is
-pub after-refusal : {A : Type 0} {w : Told} {r : Refusal} {v : Verdict} → w ≡ Refused r → verdictOf w ≡ v → (o : Outcome A) → (v then o) ≡ refusalOf r
-after-refusal d e o = rw (← e, d)
-
--- a verdict that refuses is handed on as it is
-pub refusal-stays : {w : Told} {r : Refusal} {v : Verdict} → w ≡ Refused r → verdictOf w ≡ v → (o : Verdict) → verdictOf w ≡ (v then o)
-refusal-stays d e o = ap verdictOf d ∙ sym (after-refusal d e o)
-
-pub after-fine : {A : Type 0} {w : Told} {v : Verdict} → w ≡ Fine → verdictOf w ≡ v → (o : Outcome A) → (v then o) ≡ o
-after-fine d e o = rw (← e, d)
+use Rattle.job.specs.Told.{verdictOf}
+use Rattle.job.proofs.AfterVerdict.{refusal-stays, after-fine}
 
 -- tests with one refusal are one test
 must-and : (s t : Bool) (n p : ℕ) (o : Verdict) → (must (s && t) n p then o) ≡ (must s n p then must t n p then o)
 must-and true t n p o = refl
 must-and false t n p o = refl
-
--- where a list goes on at a place
-pub from-place : (xs : List ℕ) (i : ℕ) → i < length xs → drop i xs ≡ getD xs i 0 ∷ drop (i + 1) xs
-from-place xs i h = rw (add-one, drop-cons xs i 0)
 
 -- the nodes entered by the first links, one more
 entered-more : (ends path : List ℕ) (p : ℕ) → p < length path → entered ends (take (p + 1) path) ≡ entered ends (take p path) ++ (getD ends (getD path p 0) 0 ∷ [])
