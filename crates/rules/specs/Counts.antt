@@ -28,7 +28,7 @@ linkCount j = length (j .network .origins)
 unfoldable pub congestion : Job → ℕ
 congestion j = maxBelow (λ link. load link (paths j)) (linkCount j)
 
--- D: the steps of the longest path, 0 without packets
+-- D: the most steps of a path, one a hop; 0 without packets
 unfoldable pub dilation : Job → ℕ
 dilation j = maxOf (travel (delayIn j)) (paths j)
 

@@ -17,8 +17,8 @@ pub record Enters (delay : ℕ → ℕ) (s : ℕ) (path : List ℕ) (hop link st
   pub there : getElem? path hop ≡ some link
   pub then-step : s + travel delay (take hop path) ≡ step
 
--- What packets take is a parameter: a packet with this start takes, as so many-th in order, the resource in the step. Conflict,
--- starts and the clash that is shown are said once, for whatever is taken.
+-- What packets take is a parameter: packet p, started at s, takes the resource in the step, at a place in the order in which it
+-- takes things. Conflict, starts and the clash that is shown are said once, for whatever is taken.
 abbrev pub Taking : Type 1
 Taking = (s : ℕ) (p : Packet) (at : ℕ) (resource : Resource) (step : ℕ) → Type 0
 

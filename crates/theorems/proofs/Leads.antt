@@ -8,14 +8,14 @@ use mathlib.Core.Logic.{_↔_, _≢_, _⊎_, inl, inr, ⊎-elim, ⊎-map, Iff·t
 use Prim.Native.Nat.{ℕ, zero, suc, _+_, _-_, _≤_}
 use native.Mathlib.Omega.{arith}
 use lib.Dec.{eqb, ltb}
-use lib.ListN.{length, take, getElem?}
+use lib.ListN.{take, getElem?}
 use lib.IntN.{ℤ, pos, negsuc, negℤ, natAbs, _+ℤ_, _-ℤ_, +ℤ-invr, +ℤ-comm, negℤ-+ℤ, negℤ-negℤ, -ℤ-+ℤ-cancel}
 use borrow.Author.Tests.{eqb-true, eq-eqb, ne-eqb, ltb-true}
 use Rattle.counting.specs.Count.{pick}
 use Rattle.counting.proofs.Tests.{eqb-comm}
 use Rattle.counting.proofs.Places.{some-same, none-not-some, at-below, at-mem}
 use Rattle.counting.proofs.Distinct.{Distinct, distinct-tail}
-use Rattle.rules.specs.Sizes.{startMost, pathMost, leadMost}
+use Rattle.rules.specs.Sizes.{startMost, leadMost}
 use Rattle.rules.specs.Network.{Job, linkAt, pathsFrom, paths}
 use Rattle.rules.specs.Travel.{delayOf, travel}
 use Rattle.rules.specs.Outcome.{is, refused, must, _then_, onward}
@@ -24,7 +24,7 @@ use Rattle.rules.specs.Lead.{entryStep, leadOf, entryOf, entryAt, lead}
 use Rattle.rules.specs.Answers.{startsVerdict, startedVerdict, led}
 use Rattle.rules.specs.Plain.{Enters, EntersAt}
 use Rattle.theorems.proofs.Verdicts.{refused-not-is}
-use Rattle.theorems.proofs.Travels.{Delayed, travel-take-le}
+use Rattle.theorems.proofs.Travels.{PathsFit, travel-take-le}
 
 -- where there is an entry step, the packet enters the link in it
 pub entry-enters : (delay : ℕ → ℕ) (link s : ℕ) (path : List ℕ) (t : ℕ) → entryStep delay link s path ≡ some t → (hop : ℕ) × Enters delay s path hop link t
@@ -65,7 +65,7 @@ enters-at-entry delay starts ps link k d e =
 
 -- the last hop of the longest path after the latest start
 entry-at-le : (delay : ℕ → ℕ) (starts : List ℕ) (ps : List (List ℕ)) (link k : ℕ) {x : ℕ} → ((s : ℕ) → List·Memᴰ s starts → s ≤ startMost)
-    → ((p : List ℕ) → List·Memᴰ p ps → (length p ≤ pathMost) × Delayed delay p) → entryAt delay starts ps link k ≡ some x → x ≤ leadMost
+    → PathsFit delay ps → entryAt delay starts ps link k ≡ some x → x ≤ leadMost
 entry-at-le delay starts ps link k f g e =
     let r = entry-at-enters delay starts ps link k e in
     let (short, delayed) = g (r .path) (at-mem ps k (r .is-path)) in
@@ -96,7 +96,7 @@ abs-sub-le x (suc y) n h l = go (ltb x (suc y)) refl
 
 -- no lead is below −33,021 or above 33,021
 pub lead-in-range : (delay : ℕ → ℕ) (starts : List ℕ) (ps : List (List ℕ)) → ((s : ℕ) → List·Memᴰ s starts → s ≤ startMost)
-    → ((p : List ℕ) → List·Memᴰ p ps → (length p ≤ pathMost) × Delayed delay p) → (a b link : ℕ) (z : ℤ) → lead delay starts ps a b link ≡ is z → natAbs z ≤ leadMost
+    → PathsFit delay ps → (a b link : ℕ) (z : ℤ) → lead delay starts ps a b link ≡ is z → natAbs z ≤ leadMost
 unfolding lead
 lead-in-range delay starts ps f g a b link z e =
     let (x, y, p, q, d) = lead-of-entries (not (eqb a b)) _ _ z e in

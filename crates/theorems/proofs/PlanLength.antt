@@ -14,7 +14,7 @@ use Rattle.rules.specs.Travel.{delayIn, travel}
 use Rattle.rules.specs.Counts.{endOf, routingTime, load, congestion, dilation}
 use Rattle.rules.specs.Bytes.{letterS, letterT, digits, decimal, fieldsText, lineText}
 use Rattle.rules.specs.PlanText.{packetLines, planText}
-use Rattle.theorems.proofs.Travels.{Delayed, travel-le-hops}
+use Rattle.theorems.proofs.Travels.{PathsFit, travel-le-hops}
 use Rattle.theorems.proofs.Bounds.{routing-time-le}
 use Rattle.theorems.proofs.Counts.{congestion-least, dilation-least}
 use Rattle.theorems.proofs.Numbers.{decimal-length-le}
@@ -38,9 +38,6 @@ line-length letter a b c = simp length-append (omega arith)
 -- each start and each path is within its size
 abbrev StartsFit : List ℕ → Type 0
 StartsFit starts = (s : ℕ) → List·Memᴰ s starts → s ≤ startMost
-
-abbrev PathsFit : (ℕ → ℕ) → List (List ℕ) → Type 0
-PathsFit delay ps = (p : List ℕ) → List·Memᴰ p ps → (length p ≤ pathMost) × Delayed delay p
 
 -- beside the digits of its packet number a line has at most 15 bytes
 lines-length-le : (delay : ℕ → ℕ) (k m : ℕ) (ss : List ℕ) (ps : List (List ℕ)) → StartsFit ss → PathsFit delay ps → k + length ss ≤ m
@@ -75,8 +72,8 @@ load-le link ps =
 pub congestion-le : (j : Job) → congestion j ≤ length (paths j)
 congestion-le j = congestion-least j (length (paths j)) (λ link l. load-le link (paths j))
 
-pub plan-length-le : (j : Job) (starts : List ℕ) → length starts ≤ packetsMost → ((s : ℕ) → List·Memᴰ s starts → s ≤ startMost)
-    → ((p : List ℕ) → List·Memᴰ p (paths j) → (length p ≤ pathMost) × Delayed (delayIn j) p) → length (paths j) ≤ packetsMost → length (planText j starts) ≤ planMost
+pub plan-length-le : (j : Job) (starts : List ℕ) → length starts ≤ packetsMost → StartsFit starts
+    → PathsFit (delayIn j) (paths j) → length (paths j) ≤ packetsMost → length (planText j starts) ≤ planMost
 unfolding planText
 plan-length-le j starts m f g n =
     let time = routingTime (delayIn j) starts (paths j) in

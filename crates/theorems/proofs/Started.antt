@@ -9,7 +9,7 @@ use lib.IntN.{ℤ, pos, natAbs, _-ℤ_}
 use lib.ListN.{length}
 use borrow.Author.Tests.{ne-eqb}
 use Rattle.counting.proofs.Places.{none-not-some, mem-at}
-use Rattle.rules.specs.Sizes.{pathMost, startMost, planMost, leadMost}
+use Rattle.rules.specs.Sizes.{startMost, planMost, leadMost}
 use Rattle.rules.specs.Network.{Job, paths}
 use Rattle.rules.specs.Travel.{delayIn}
 use Rattle.rules.specs.Outcome.{is, refused, fine}
@@ -25,7 +25,7 @@ use Rattle.theorems.proofs.Verdicts.{leb-iff, eqb-iff, is-iff, must-iff
 use Rattle.theorems.proofs.TextJobs.{reading-accepted}
 use Rattle.theorems.proofs.Paths.{path-distinct}
 use Rattle.theorems.proofs.Accepted.{tables-fine-iff, length-paths, job-path, job-delayed}
-use Rattle.theorems.proofs.Travels.{Delayed}
+use Rattle.theorems.proofs.Travels.{PathsFit}
 use Rattle.theorems.proofs.PlanLength.{plan-length-le}
 use Rattle.theorems.proofs.Leads.{entry-at-enters, enters-at-entry, lead-in-range, no-lead-iff, sub-zero-iff}
 use Rattle.theorems.proofs.Demands.{starts-count, job-bounded}
@@ -46,7 +46,7 @@ started-fine-iff j starts =
     (λ t. record { job = t .0; count = t .1 .0; in-time = t .1 .1 }, λ h. (h .job, (h .count, h .in-time)))
 
 -- every path of an accepted job is short enough
-paths-short : (j : Job) → IsJob j → (p : List ℕ) → List·Memᴰ p (paths j) → (length p ≤ pathMost) × Delayed (delayIn j) p
+paths-short : (j : Job) → IsJob j → PathsFit (delayIn j) (paths j)
 paths-short j job p m = (job-path j job m .1 .short, job-delayed j job m)
 
 pub started-plan-length : (j : Job) (starts : List ℕ) → startedVerdict j starts ≡ fine → length (planText j starts) ≤ planMost

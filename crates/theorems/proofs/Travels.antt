@@ -5,12 +5,16 @@ use Prim.Native.Nat.{ℕ, _*_, _≤_}
 use native.Mathlib.Omega.{arith}
 use lib.ListN.{length, take, length-take}
 use Rattle.counting.proofs.Places.{mem-take}
-use Rattle.rules.specs.Sizes.{delayMost}
+use Rattle.rules.specs.Sizes.{delayMost, pathMost}
 use Rattle.rules.specs.Travel.{travel}
 
 -- each of the links takes from one step to the most
 abbrev pub Delayed : (ℕ → ℕ) → List ℕ → Type 0
 Delayed delay ls = (l : ℕ) → List·Memᴰ l ls → (1 ≤ delay l) × (delay l ≤ delayMost)
+
+-- paths no longer than one may be, of such links
+abbrev pub PathsFit : (ℕ → ℕ) → List (List ℕ) → Type 0
+PathsFit delay ps = (p : List ℕ) → List·Memᴰ p ps → (length p ≤ pathMost) × Delayed delay p
 
 pub hops-le-travel : (delay : ℕ → ℕ) (ls : List ℕ) → Delayed delay ls → length ls ≤ travel delay ls
 unfolding travel
