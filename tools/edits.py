@@ -9,9 +9,10 @@ A group has blocks, parted by blank lines. A block is one mistake:
     old: TEXT
     new: TEXT
 
-A mistake in the body of a function has no `shows:` line: it must show there, and a group has at most one for each function, so each
-shows by itself. A mistake anywhere else, as in a constant, a contract or a definition, shows in whatever cites it: it stands alone
-in its group and names one function or theorem that must show it."""
+A mistake in the body of a function has no `shows:` line: it must show there, and a group has at most one for each function. A mistake
+anywhere else, as in a constant, a contract or a definition, shows in whatever cites it: it names one function or theorem that must show
+it, and stands alone in its group. Constants that only bodies name may share a group, if what must show each names no other of them. So
+each mistake shows by itself: nothing but itself touches what must show it."""
 import glob, os, re
 from collections import namedtuple
 
@@ -84,7 +85,7 @@ def functions(text, file):
     prefix = '' if module in ('lib', 'main') else module + '/'
     found, of, start = [], '', None
     for number, line in enumerate(text.split('\n'), 1):
-        begun = re.match(r'( *)(?:pub )?(?:extern "C" )?fn (\w+)', line)
+        begun = re.match(r'( *)(?:pub(?:\([^)]*\))? )?(?:extern "C" )?fn (\w+)', line)
         if re.match(r'impl\b', line):
             of = re.match(r"impl(?:<[^>]*>)? (?:\w+ for )?(\w+)", line)[1] + '/'
         elif begun and start is None:
@@ -131,7 +132,7 @@ def apply(found, folder):
     texts = {}
     for one in found:
         for pair in one.pairs:
-            replace(place(one), texts, folder, pair)
+            replace(place(one) + (', after those above it' if one != found[0] else ''), texts, folder, pair)
     return texts
 
 
@@ -167,9 +168,10 @@ def constant(one, folder):
         return None
     outside = 0
     for path in glob.glob(f'{folder}/src/*.rt'):
-        text = bare(open(path, encoding='utf-8').read())
-        inside = {number for f in functions(text, os.path.basename(path)) for number in range(f.body, f.last + 1)}
-        outside += sum(len(re.findall(rf'\b{name}\b', line)) for number, line in enumerate(text.split('\n'), 1) if number not in inside)
+        lines = bare(open(path, encoding='utf-8').read()).split('\n')
+        for f in functions('\n'.join(lines), os.path.basename(path)):
+            lines[f.body - 1:f.last] = [''] * (f.last - f.body + 1)
+        outside += len(re.findall(rf'\b{name}\b', '\n'.join(lines)))
     return name if outside == 1 else None
 
 
@@ -184,16 +186,20 @@ def theorem(name, folder):
 def showers(found, folder):
     """What must show each mistake of a group, by the mistake's name: a function, or a theorem with its file. Trouble where what must
     show one of them is touched by another too, since then neither would show by itself."""
+    holders = {one.name: holder(one, folder) for one in found}  # each alone first, since each may be tried alone
     texts = apply(found, folder)
-    code = {f.name: '\n'.join(bare(texts.get(f.file) or open(f'{folder}/{f.file}', encoding='utf-8').read()).split('\n')[f.first - 1:f.last])
-            for f in crate_functions(folder).values()}
+    code = {}
+    for f in crate_functions(folder).values():
+        text = texts.get(f.file) or open(f'{folder}/{f.file}', encoding='utf-8').read()
+        code[f.name] = '\n'.join(bare(text).split('\n')[f.first - 1:f.last])
     shown, changed = {}, {}
     for one in found:
-        held = holder(one, folder)
+        held = holders[one.name]
         if held and one.shows:
             raise Trouble(f'{place(one)}: it changes the function {held}, which must show it: no "# shows:" line')
         if not held and not one.shows:
-            raise Trouble(f'{place(one)}: it changes no function\'s body: a line "# shows: NAME" has to say which function or theorem shows it')
+            raise Trouble(f'{place(one)}: it changes no function\'s body: a line "# shows: NAME" has to say which function or theorem'
+                          ' shows it')
         if not held:
             changed[one.name] = constant(one, folder)
             if not changed[one.name] and len(found) > 1:
@@ -241,17 +247,20 @@ def own(show, folder, found):
         return [s for s in found if s.file == file and s.name == name]
     function = crate_functions(folder)[name]
     parts = name.split('/')
-    proofs = re.compile(f"proofs/{'/'.join(map(re.escape, parts[:-1] + ['']))}(\\+\\w+)*\\+?{re.escape(parts[-1])}(\\+\\w+)*/")
+    # functions that call each other share a folder, as +one+other
+    proofs = re.compile(f"proofs/{''.join(part + '/' for part in parts[:-1])}(\\+\\w+)*\\+?{parts[-1]}(\\+\\w+)*/")
     return [s for s in found if proofs.match(s.file) or s.file == function.file and function.first <= s.line <= function.last]
 
 
 FOLLOWS = re.compile(r'was not admitted .* so this cannot be checked')
-NOT_THERE = re.compile(r'has no (field|`)|not in scope|is not a record|not determined|that can be named from here|unexpected|no proof: expected')
+NOT_THERE = re.compile('|'.join((
+    r'has no (field|`)', r'not in scope', r'is not a record', r'not determined', r'that can be named from here', r'unexpected',
+    r'no proof: expected')))
 OTHER_NEED = re.compile(r'expected type `[^` ]*\bNeed-[^`]*`,?\s*but this has type `[^` ]*\bNeed-')
 REFUSED = re.compile('|'.join((
     r'`omega`: (the goal does not follow|the part)', r'`search`: no proof of', r"`rw`: no (occurrence of the path's|part of the goal)",
-    r'give a proof of that as the last argument', r'the two types (are|differ|first differ)', r'expected type `[^`]*`,?\s*but this has type',
-    r'does not hold \(this comparison')))
+    r'give a proof of that as the last argument', r'the two types (are|differ|first differ)',
+    r'expected type `[^`]*`,?\s*but this has type', r'does not hold \(this comparison')))
 
 
 def kind(one):
