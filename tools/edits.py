@@ -5,6 +5,7 @@ A group has blocks, parted by blank lines. A block is one mistake:
 
     # NAME: SENTENCE
     # shows: FUNCTION OR THEOREM
+    # form: WHY IT IS A MISTAKE
     file: src/lib.rt
     old: TEXT
     new: TEXT
@@ -12,12 +13,15 @@ A group has blocks, parted by blank lines. A block is one mistake:
 A mistake in the body of a function has no `shows:` line: it must show there, and a group has at most one for each function. A mistake
 anywhere else, as in a constant, a contract or a definition, shows in whatever cites it: it names one function or theorem that must show
 it, and stands alone in its group. Constants that only bodies name may share a group, if what must show each names no other of them. So
-each mistake shows by itself: nothing but itself touches what must show it."""
+each mistake shows by itself: nothing but itself touches what must show it.
+
+A mistake changes operands and leaves the code's form. Where it adds or takes away a step of a function whose proof is written by hand,
+that proof would be refused after a harmless change too; such a mistake says in a `form:` line why it is one, for a reader to judge."""
 import glob, os, re
 from collections import namedtuple
 
 ROOT = os.path.dirname(os.path.dirname(os.path.abspath(__file__)))
-Mistake = namedtuple('Mistake', 'crate group name sentence shows pairs line')  # pairs: (file, old, new), line: of its name
+Mistake = namedtuple('Mistake', 'crate group name sentence shows form pairs line')  # pairs: (file, old, new), line: of its name
 Function = namedtuple('Function', 'name file first body last')  # name as in proofs/; lines from 1; body: the line of its brace
 
 
@@ -50,14 +54,16 @@ def read(path):
 def mistake(path, crate, group, block):
     number, first = block[0]
     head = re.fullmatch(r'# (\w+): (\S.*)', first)
-    if not head or head[1] == 'shows':
+    if not head or head[1] in ('shows', 'form'):
         raise Trouble(f'{path}:{number}: a mistake begins with "# NAME: SENTENCE", not with "{first}"')
-    shows = file = old = None
+    shows = form = file = old = None
     pairs = []
     for at, line in block[1:]:
         word, said = line.split(' ', 1) if ' ' in line else (line, '')
         if line.startswith('# shows: ') and not shows and not file:
             shows = line[len('# shows: '):].strip()
+        elif line.startswith('# form: ') and not form and not file:
+            form = line[len('# form: '):].strip()
         elif word == 'file:' and old is None:
             file = said
         elif word == 'old:' and file and old is None and said:
@@ -71,7 +77,7 @@ def mistake(path, crate, group, block):
             raise Trouble(f'{path}:{at}: {head[1]}: "{line}" is not what comes next (see tools/edits.py)')
     if not pairs or old is not None:
         raise Trouble(f'{path}:{number}: {head[1]}: no pair of "old:" and "new:"')
-    return Mistake(crate, group, head[1], head[2], shows, tuple(pairs), number)
+    return Mistake(crate, group, head[1], head[2], shows, form, tuple(pairs), number)
 
 
 def place(one):
@@ -149,6 +155,27 @@ def holder(one, folder):
     return held.pop()
 
 
+def steps(texts):
+    """What gives code its form: all but names, numbers, commas, and which comparison or division it is."""
+    tokens = re.findall(r"b?'(?:\\.|[^'])'|\w+|[<>=!]=|&&|\|\||=>|->|\S", ' '.join(texts))
+    kinds = {'<': '<', '<=': '<', '>': '<', '>=': '<', '==': '<', '!=': '<', '%': '/'}
+    return sorted(kinds.get(token, token) for token in tokens if token == 'as' or not re.match(r"b?'|\w|[:,]", token))
+
+
+def changes_form(one, held, folder):
+    """Whether a mistake adds or takes away a step of a function whose proof is written by hand."""
+    return bool(proof_of(held, folder)) and steps(pair[1] for pair in one.pairs) != steps(pair[2] for pair in one.pairs)
+
+
+def proof_of(name, folder):
+    """The folder of a function's proof, if it has one. Functions that call each other share one, named +one+other."""
+    above, _, last = f'proofs/{name}'.rpartition('/')
+    for found in glob.glob(f'{folder}/{above}/*/Proof.antt'):
+        if last in os.path.basename(os.path.dirname(found)).split('+'):
+            return os.path.relpath(os.path.dirname(found), folder)
+    return None
+
+
 def bare(text):
     """A source's text without comments, its lines as they were."""
     return re.sub(r'//.*', '', text)
@@ -197,6 +224,11 @@ def showers(found, folder):
         held = holders[one.name]
         if held and one.shows:
             raise Trouble(f'{place(one)}: it changes the function {held}, which must show it: no "# shows:" line')
+        if held and changes_form(one, held, folder) and not one.form:
+            raise Trouble(f'{place(one)}: it adds or takes away a step of {held}, and then a harmless change would be refused too:'
+                          ' change operands only, or let a line "# form: WHY" say why it is a mistake')
+        if one.form and not (held and changes_form(one, held, folder)):
+            raise Trouble(f'{place(one)}: it leaves the form of the code, or no proof written by hand stands on it: no "# form:" line')
         if not held and not one.shows:
             raise Trouble(f'{place(one)}: it changes no function\'s body: a line "# shows: NAME" has to say which function or theorem'
                           ' shows it')
@@ -246,10 +278,9 @@ def own(show, folder, found):
     if file:
         return [s for s in found if s.file == file and s.name == name]
     function = crate_functions(folder)[name]
-    parts = name.split('/')
-    # functions that call each other share a folder, as +one+other
-    proofs = re.compile(f"proofs/{''.join(part + '/' for part in parts[:-1])}(\\+\\w+)*\\+?{parts[-1]}(\\+\\w+)*/")
-    return [s for s in found if proofs.match(s.file) or s.file == function.file and function.first <= s.line <= function.last]
+    proof = proof_of(name, folder)
+    return [s for s in found if proof and s.file.startswith(proof + '/')
+            or s.file == function.file and function.first <= s.line <= function.last]
 
 
 FOLLOWS = re.compile(r'was not admitted .* so this cannot be checked')

@@ -42,6 +42,7 @@ SEVEN = '# seven: not seven\n# shows: most\nfile: src/lib.rt\nold: MOST: u32 = 7
 LEAST = '# three: not two\n# shows: both\nfile: src/lib.rt\nold: LEAST: u32 = 2;\nnew: LEAST: u32 = 3;\n'
 HARMLESS = '# none: nothing less\nfile: src/lib.rt\nold:     a + 3 - 3\nnew:     a + 4 - 4\n'
 SAME = '# same: two more\nfile: src/lib.rt\nold:     a + 1\nnew:     a + 3\n'  # as ONE, in first
+FORM = ONE.replace('- 2', '- 3 + 1').replace('file:', '# form: one less all the same\nfile:')
 CONTRACT = '# nine: not nine\n# shows: both\nfile: src/lib.rt\nold: r ≡ 9\nnew: r ≡ 8\n'
 FACT_ONE = 'IN/proofs/first/Proof.antt:3:5: error: `returns`: `omega`: the goal does not follow from what it read\n'
 FACT_TWO = 'note: IN/src/lib.rt:11:1: it is not proved that what the function ensures holds when it returns (`returns`)\n'
@@ -69,8 +70,12 @@ def toy(folder, groups, logs, source=TOY):
     for name, group in groups.items():
         write(f'{folder}/crates/toy/must-fail/{name}.edit', group)
     write(f'{folder}/crates/toy/src/lib.rt', source)
+    for proved in ('first', 'third'):
+        os.makedirs(f'{folder}/crates/toy/proofs/{proved}')
+        write(f'{folder}/crates/toy/proofs/{proved}/Proof.antt', '')
     for name, log in logs.items():
         copy = f'{folder}/target/must-fail/toy/{name}'
+        shutil.copytree(f'{folder}/crates/toy/proofs', f'{copy}/proofs')
         os.makedirs(f'{copy}/src')
         edited = source
         for old, new in re.findall('^old: (.*)\nnew: (.*)$', groups[name], re.M):
@@ -124,6 +129,9 @@ def run(page):
         ('a constant without what shows it', alone(SEVEN.replace('# shows: most\n', '')), {}, nothing, 'a line "# shows: NAME" has to'),
         ('a constant shown by another', alone(SEVEN.replace('shows: most', 'shows: first')), {}, nothing, 'first does not name MOST'),
         ('two constants in one function', alone(f'{SEVEN}\n{LEAST}'), {}, nothing, 'names MOST too, which seven changes'),
+        ('a harmless step more', alone(ONE.replace('- 2', '- 2 + 1')), {}, nothing, 'one: it adds or takes away a step of first'),
+        ('a step more, with its reason', alone(FORM), {'g': FACT_ONE}, nothing, None),
+        ('a reason for no step more', alone(FORM.replace('- 3 + 1', '- 2')), {}, nothing, 'no "# form:" line'),
         ('a contract beside another mistake', alone(f'{ONE}\n{CONTRACT}'), {}, nothing, 'has to stand alone'),
         ('a name twice', {'g': ONE, 'h': TWO.replace('# two', '# one')}, {}, nothing, 'toy has two mistakes of this name'),
         ('a mistake without a name', alone(ONE.replace('# one: ', '# ')), {}, nothing, 'a mistake begins with'),
