@@ -5,27 +5,6 @@ use borrow.Author.Needs.{needs}
 use Rattle.answer.proofs.print.Statement.{statement}
 use Rattle.answer.proofs.print.Tie as tie
 
-answer-requires : tie.Need-answer-requires
-answer-requires c κs = search needs
-
-enum-known-told : tie.Need-enum-known-told
-enum-known-told c = search needs
-
-cast-result : tie.Need-cast-result
-cast-result c = search needs
-
-enum-known-told-2 : tie.Need-enum-known-told-2
-enum-known-told-2 c = search needs
-
-number-requires : tie.Need-number-requires
-number-requires c κs = search needs
-
-place-requires : tie.Need-place-requires
-place-requires c κs = search needs
-
-line-of-two-requires : tie.Need-line-of-two-requires
-line-of-two-requires c κs = search needs
-
 returns : tie.Need-returns
 returns c = let p = plan-printed _ _ (omega (arith, c .before .before .before .before .answer-arg .given .0 .1)) (c .before .before .before .answer .ensures) _ (c .before .told .given .1) in (p, printed-fits p)
 
@@ -38,12 +17,12 @@ pub print-spec : {M : Type 1} → statement M
 print-spec =
     tie.close
     (tie.spec
-    answer-requires
-    enum-known-told
-    cast-result
-    enum-known-told-2
-    number-requires
-    place-requires
-    line-of-two-requires
+    (λ c κs. search needs)
+    (λ c. search needs)
+    (λ c. search needs)
+    (λ c. search needs)
+    (λ c κs. search needs)
+    (λ c κs. search needs)
+    (λ c κs. search needs)
     returns
     returns-2)

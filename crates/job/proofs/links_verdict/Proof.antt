@@ -18,40 +18,13 @@ abbrev μ-loop : tie.MeasureT-loop
 loop-holds : tie.Need-loop-holds Inv-loop μ-loop
 loop-holds c = (omega arith, refl)
 
-mul-link-verdict : tie.Need-mul-link-verdict Inv-loop μ-loop
-mul-link-verdict c = search needs
-
-shared-slice-read-link-verdict : tie.Need-shared-slice-read-link-verdict Inv-loop μ-loop
-shared-slice-read-link-verdict c = search needs
-
 mul-link-verdict-2 : tie.Need-mul-link-verdict-2 Inv-loop μ-loop
 mul-link-verdict-2 c = omega arith
-
-shared-slice-read-link-verdict-2 : tie.Need-shared-slice-read-link-verdict-2 Inv-loop μ-loop
-shared-slice-read-link-verdict-2 c = search needs
-
-cast-link-verdict : tie.Need-cast-link-verdict Inv-loop μ-loop
-cast-link-verdict c = search needs
-
-link-verdict-requires : tie.Need-link-verdict-requires Inv-loop μ-loop
-link-verdict-requires c κs = search needs
-
-enum-told : tie.Need-enum-told Inv-loop μ-loop
-enum-told c = search needs
-
-enum-told-2 : tie.Need-enum-told-2 Inv-loop μ-loop
-enum-told-2 c = search needs
 
 returns : tie.Need-returns Inv-loop μ-loop
 returns c =
     let t = c .before .before .before .before .before in
     links-refused _ _ _ _ (t .loop-test .taken) (omega arith) (c .enum-told2 .given .1) (c .before .before .link-verdict .ensures) ∙ sym (t .before .loop .inv .1)
-
-add-l : tie.Need-add-l Inv-loop μ-loop
-add-l c = search needs
-
-loop-less : tie.Need-loop-less Inv-loop μ-loop
-loop-less c = search needs
 
 loop-again : tie.Need-loop-again Inv-loop μ-loop
 loop-again c =
@@ -68,16 +41,16 @@ links-verdict-spec =
     Inv-loop
     μ-loop
     loop-holds
-    mul-link-verdict
-    shared-slice-read-link-verdict
+    (λ c. search needs)
+    (λ c. search needs)
     mul-link-verdict-2
-    shared-slice-read-link-verdict-2
-    cast-link-verdict
-    link-verdict-requires
-    enum-told
-    enum-told-2
+    (λ c. search needs)
+    (λ c. search needs)
+    (λ c κs. search needs)
+    (λ c. search needs)
+    (λ c. search needs)
     returns
-    add-l
-    loop-less
+    (λ c. search needs)
+    (λ c. search needs)
     loop-again
     returns-2)

@@ -14,12 +14,9 @@ returns-2 : tie.Need-returns-2
 unfolding packetVerdict
 returns-2 c = rw (le-leb _ pathMost (c .before .if1 .left), le-ltb _ _ (c .if2 .taken))
 
-walk-requires : tie.Need-walk-requires
-walk-requires c κs = search needs
-
 returns-3 : tie.Need-returns-3
 unfolding packetVerdict
 returns-3 c = rw (le-leb _ pathMost (c .before .before .if1 .left), lt-ltb _ _ (c .before .if2 .left)) (c .walk .ensures _)
 
 pub packet-verdict-spec : {M : Type 1} → statement M
-packet-verdict-spec = tie.close (tie.spec returns returns-2 walk-requires returns-3)
+packet-verdict-spec = tie.close (tie.spec returns returns-2 (λ c κs. search needs) returns-3)

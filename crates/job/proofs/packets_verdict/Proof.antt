@@ -29,12 +29,6 @@ loop-holds c = (omega arith, c .before .before .before .before .before .pre .2, 
 mul-wide : tie.Need-mul-wide Inv-loop μ-loop
 mul-wide c = omega arith
 
-shared-slice-read-wide : tie.Need-shared-slice-read-wide Inv-loop μ-loop
-shared-slice-read-wide c = search needs
-
-wide-requires : tie.Need-wide-requires Inv-loop μ-loop
-wide-requires c κs = search needs
-
 abbrev W : Type 0
 W = tie.After-wide Inv-loop μ-loop
 
@@ -67,32 +61,14 @@ part-packet-verdict-end c = part c .1
 mul-packet-verdict-2 : tie.Need-mul-packet-verdict-2 Inv-loop μ-loop
 mul-packet-verdict-2 c = omega arith
 
-shared-slice-read-packet-verdict : tie.Need-shared-slice-read-packet-verdict Inv-loop μ-loop
-shared-slice-read-packet-verdict c = search needs
-
 cast-packet-verdict : tie.Need-cast-packet-verdict Inv-loop μ-loop
 cast-packet-verdict c = omega arith
-
-packet-verdict-requires : tie.Need-packet-verdict-requires Inv-loop μ-loop
-packet-verdict-requires c κs = search needs
-
-enum-told : tie.Need-enum-told Inv-loop μ-loop
-enum-told c = search needs
-
-enum-told-2 : tie.Need-enum-told-2 Inv-loop μ-loop
-enum-told-2 c = search needs
 
 returns : tie.Need-returns Inv-loop μ-loop
 returns c =
     let w = c .before .before .before .before .before in
     packets-refused _ _ _ _ _ _ (w .wide .ensures) (w .before .before .loop-test .taken) (omega arith) (c .enum-told2 .given .1) (c .before .before .packet-verdict .ensures)
     ∙ sym (at w .loop .inv .2)
-
-add-k : tie.Need-add-k Inv-loop μ-loop
-add-k c = search needs
-
-loop-less : tie.Need-loop-less Inv-loop μ-loop
-loop-less c = search needs
 
 loop-again : tie.Need-loop-again Inv-loop μ-loop
 loop-again c =
@@ -113,20 +89,20 @@ packets-verdict-spec =
     μ-loop
     loop-holds
     mul-wide
-    shared-slice-read-wide
-    wide-requires
+    (λ c. search needs)
+    (λ c κs. search needs)
     mul-packet-verdict
     sub-packet-verdict
     part-packet-verdict-start
     part-packet-verdict-end
     mul-packet-verdict-2
-    shared-slice-read-packet-verdict
+    (λ c. search needs)
     cast-packet-verdict
-    packet-verdict-requires
-    enum-told
-    enum-told-2
+    (λ c κs. search needs)
+    (λ c. search needs)
+    (λ c. search needs)
     returns
-    add-k
-    loop-less
+    (λ c. search needs)
+    (λ c. search needs)
     loop-again
     returns-2)

@@ -9,9 +9,6 @@ use Rattle.rules.specs.Sizes.{nodesMost, linksMost, packetsMost}
 use Rattle.job.proofs.sizes_fit.Statement.{statement}
 use Rattle.job.proofs.sizes_fit.Tie as tie
 
-wide-requires : tie.Need-wide-requires
-wide-requires c κs = search needs
-
 -- where the ways meet after each `&&`, the flag is what was tested so far
 few-nodes : (c : tie.Joined1) → let a = c .before .args in c .if1 .if2 ≡ (leb 1 (a .nodes) && leb (a .nodes) nodesMost)
 few-nodes c = ⊎-elim (λ w. rw (le-leb 1 _ (w .0 .taken), w .2, w .1 .ensures)) (λ w. rw (w .1, lt-leb 1 _ (w .0 .left))) (c .if1 .came)
@@ -29,4 +26,4 @@ returns-2 : tie.Need-returns-2
 returns-2 c = rw (← few-packets (c .before), c .if4 .left)
 
 pub sizes-fit-spec : {M : Type 1} → statement M
-sizes-fit-spec = tie.close (tie.spec wide-requires returns returns-2)
+sizes-fit-spec = tie.close (tie.spec (λ c κs. search needs) returns returns-2)

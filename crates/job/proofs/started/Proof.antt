@@ -9,15 +9,6 @@ use Rattle.job.proofs.AfterVerdict.{refusal-stays, after-fine}
 use Rattle.job.proofs.started.Statement.{statement}
 use Rattle.job.proofs.started.Tie as tie
 
-tables-requires : tie.Need-tables-requires
-tables-requires c κs = search needs
-
-enum-told : tie.Need-enum-told
-enum-told c = search needs
-
-enum-told-2 : tie.Need-enum-told-2
-enum-told-2 c = search needs
-
 returns : tie.Need-returns
 unfolding startedVerdict
 returns c = refusal-stays (c .enum-told2 .given .1) (c .before .before .tables .ensures) _
@@ -37,9 +28,9 @@ pub started-spec : {M : Type 1} → statement M
 started-spec =
     tie.close
     (tie.spec
-    tables-requires
-    enum-told
-    enum-told-2
+    (λ c κs. search needs)
+    (λ c. search needs)
+    (λ c. search needs)
     returns
     returns-2
     starts-verdict-requires

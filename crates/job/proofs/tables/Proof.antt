@@ -37,26 +37,14 @@ returns c = sym (tables-no-ends _ (c .if1 .taken))
 returns-2 : tie.Need-returns-2
 returns-2 c = sym (tables-no-stops _ (c .before .if1 .left) (c .if2 .taken))
 
-stops-agree-requires : tie.Need-stops-agree-requires
-stops-agree-requires c κs = search needs
-
 returns-3 : tie.Need-returns-3
 returns-3 c = sym (tables-stops-fall _ (c .before .before .before .if1 .left) (c .before .before .if2 .left) (sym (c .before .stops-agree .ensures) ∙ not-true _ (c .if3 .taken)))
-
-sizes-fit-requires : tie.Need-sizes-fit-requires
-sizes-fit-requires c κs = search needs
 
 returns-4 : tie.Need-returns-4
 returns-4 c = let d = c .before .before in sym (tables-oversize _ (d .before .before .before .if1 .left) (d .before .before .if2 .left) (agree d) (sym (c .before .sizes-fit .ensures) ∙ not-true _ (c .if4 .taken)))
 
 links-verdict-requires : tie.Need-links-verdict-requires
 links-verdict-requires c κs = (omega arith, job-within (lent c) (fits c) .0)
-
-enum-told : tie.Need-enum-told
-enum-told c = search needs
-
-enum-told-2 : tie.Need-enum-told-2
-enum-told-2 c = search needs
 
 returns-5 : tie.Need-returns-5
 returns-5 c = refusal-stays (c .enum-told2 .given .1) (c .before .before .links-verdict .ensures) _ ∙ sym (passed (c .before .before .before))
@@ -73,13 +61,13 @@ tables-spec =
     (tie.spec
     returns
     returns-2
-    stops-agree-requires
+    (λ c κs. search needs)
     returns-3
-    sizes-fit-requires
+    (λ c κs. search needs)
     returns-4
     links-verdict-requires
-    enum-told
-    enum-told-2
+    (λ c. search needs)
+    (λ c. search needs)
     returns-5
     packets-verdict-requires
     returns-6)

@@ -25,12 +25,6 @@ loop-holds c = (omega arith, refl)
 mul-wide : tie.Need-mul-wide Inv-loop μ-loop
 mul-wide c = omega arith
 
-shared-slice-read-wide : tie.Need-shared-slice-read-wide Inv-loop μ-loop
-shared-slice-read-wide c = search needs
-
-wide-requires : tie.Need-wide-requires Inv-loop μ-loop
-wide-requires c κs = search needs
-
 -- the link that is read is one of those that are lent
 below : (w : tie.After-wide Inv-loop μ-loop) → let l = w .before .before .before in getD (now (l .before .before .before .before .args .path)) (l .loop .q) 0 < length (now (l .before .before .before .before .args .ends))
 below w = let l = w .before .before .before in l .before .before .before .before .pre .1 (l .loop .q) (w .before .before .loop-test .taken)
@@ -47,12 +41,6 @@ returns-2 c =
     let l = w .before .before .before in
     rw (ne-eqb _ _ (l .before .if1 .left))
     (sym (l .loop .inv .1 ∙ seen-here _ _ _ _ (l .before .before .before .before .pre .0) _ (w .wide .ensures) (w .before .before .loop-test .taken) (c .if2 .taken)))
-
-add-q : tie.Need-add-q Inv-loop μ-loop
-add-q c = search needs
-
-loop-less : tie.Need-loop-less Inv-loop μ-loop
-loop-less c = search needs
 
 loop-again : tie.Need-loop-again Inv-loop μ-loop
 loop-again c =
@@ -74,12 +62,12 @@ visited-spec =
     returns
     loop-holds
     mul-wide
-    shared-slice-read-wide
-    wide-requires
+    (λ c. search needs)
+    (λ c κs. search needs)
     mul-if2
     shared-slice-read-if2
     returns-2
-    add-q
-    loop-less
+    (λ c. search needs)
+    (λ c. search needs)
     loop-again
     returns-3)

@@ -24,15 +24,6 @@ abbrev μ-loop : tie.MeasureT-loop
 loop-holds : tie.Need-loop-holds Inv-loop μ-loop
 loop-holds c = (omega arith, below-none _, λ n. walk-begins _ _ _ _ _ _)
 
-mul-wide : tie.Need-mul-wide Inv-loop μ-loop
-mul-wide c = search needs
-
-shared-slice-read-wide : tie.Need-shared-slice-read-wide Inv-loop μ-loop
-shared-slice-read-wide c = search needs
-
-wide-requires : tie.Need-wide-requires Inv-loop μ-loop
-wide-requires c κs = search needs
-
 returns : tie.Need-returns Inv-loop μ-loop
 returns c =
     let w = c .before in
@@ -43,23 +34,11 @@ returns-2 c =
     let w = c .before .before in
     λ n. sym (w .before .before .before .loop .inv .2 n ∙ walk-no-end _ _ _ _ _ _ _ _ (w .wide .ensures) (w .before .before .loop-test .taken) (c .before .if1 .left) (c .if2 .taken))
 
-mul-if3 : tie.Need-mul-if3 Inv-loop μ-loop
-mul-if3 c = search needs
-
-shared-slice-read-if3 : tie.Need-shared-slice-read-if3 Inv-loop μ-loop
-shared-slice-read-if3 c = search needs
-
 returns-3 : tie.Need-returns-3 Inv-loop μ-loop
 returns-3 c =
     let d = c .before .before in
     let w = d .before .before in
     λ n. sym (w .before .before .before .loop .inv .2 n ∙ walk-not-leaving _ _ _ _ _ _ _ _ (w .wide .ensures) (w .before .before .loop-test .taken) (d .before .if1 .left) (d .if2 .left) (c .if3 .taken))
-
-mul-node : tie.Need-mul-node Inv-loop μ-loop
-mul-node c = search needs
-
-shared-slice-read-node : tie.Need-shared-slice-read-node Inv-loop μ-loop
-shared-slice-read-node c = search needs
 
 visited-requires : tie.Need-visited-requires Inv-loop μ-loop
 visited-requires c κs = let l = c .before .before .before .before .before .before .before .before in (l .loop .inv .0, l .loop .inv .1)
@@ -70,12 +49,6 @@ returns-4 c =
     let d = h .before .before in
     let w = d .before .before in
     λ n. sym (w .before .before .before .loop .inv .2 n ∙ walk-revisited _ _ _ _ _ _ _ _ (w .wide .ensures) (w .before .before .loop-test .taken) (d .before .if1 .left) (d .if2 .left) (h .if3 .left) (c .before .visited .ensures) (c .if4 .taken))
-
-add-p : tie.Need-add-p Inv-loop μ-loop
-add-p c = search needs
-
-loop-less : tie.Need-loop-less Inv-loop μ-loop
-loop-less c = search needs
 
 loop-again : tie.Need-loop-again Inv-loop μ-loop
 loop-again c =
@@ -98,19 +71,19 @@ walk-spec =
     Inv-loop
     μ-loop
     loop-holds
-    mul-wide
-    shared-slice-read-wide
-    wide-requires
+    (λ c. search needs)
+    (λ c. search needs)
+    (λ c κs. search needs)
     returns
     returns-2
-    mul-if3
-    shared-slice-read-if3
+    (λ c. search needs)
+    (λ c. search needs)
     returns-3
-    mul-node
-    shared-slice-read-node
+    (λ c. search needs)
+    (λ c. search needs)
     visited-requires
     returns-4
-    add-p
-    loop-less
+    (λ c. search needs)
+    (λ c. search needs)
     loop-again
     returns-5)

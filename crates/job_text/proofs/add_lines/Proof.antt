@@ -25,12 +25,6 @@ abbrev μ-loop : tie.MeasureT-loop
 loop-holds : tie.Need-loop-holds Inv-loop μ-loop
 loop-holds c = let s = c .before .before .before .before .before .before in going _ _ _ _ (s .pre .2) (s .pre .1) (s .pre .0) (s .pre .3)
 
-next-requires : tie.Need-next-requires Inv-loop μ-loop
-next-requires c κs = search needs
-
-enum-known-next-line : tie.Need-enum-known-next-line Inv-loop μ-loop
-enum-known-next-line c = search needs
-
 -- the line at the cursor
 whole : (c : tie.After-known-told Inv-loop μ-loop)
     → let at = c .before .next-line .given .0 in
@@ -48,9 +42,6 @@ part-bytes-end c = let w = whole c in omega arith
 
 add-line-requires : tie.Need-add-line-requires Inv-loop μ-loop
 add-line-requires c κs = let g = c .before .before .before .before .before .before .before .before .before .before .loop .inv in (g .within, g .room)
-
-enum-known-answer : tie.Need-enum-known-answer Inv-loop μ-loop
-enum-known-answer c = search needs
 
 -- the lists after it are as long as before
 kept : (c : tie.After-add-line Inv-loop μ-loop)
@@ -79,17 +70,11 @@ same-length-5 c = let a = c .before .before .before .before .before .before .bef
 returns : tie.Need-returns Inv-loop μ-loop
 returns c = let a = c .before .before .before .before .before .before .before .before .before .before .before .before .before in going-refused (a .before .before .before .before .before .before .before .before .before .before .before .loop .inv) (whole (a .before .before .before .before .before .before .before)) (a .add-line .ensures) (c .before .answer .given .1)
 
-enum-known-answer-2 : tie.Need-enum-known-answer-2 Inv-loop μ-loop
-enum-known-answer-2 c = search needs
-
 loop-less : tie.Need-loop-less Inv-loop μ-loop
 loop-less c = let w = whole (c .before .before .before .before .before .before .before .before .before .before .before .before .before .before .before .before .before .before .before .before) in omega arith
 
 loop-again : tie.Need-loop-again Inv-loop μ-loop
 loop-again c = let a = c .before .before .before .before .before .before .before .before .before .before .before .before .before in going-on (a .before .before .before .before .before .before .before .before .before .before .before .loop .inv) (whole (a .before .before .before .before .before .before .before)) (a .add-line .ensures) (c .before .answer2 .given .1) (kept a)
-
-enum-told : tie.Need-enum-told Inv-loop μ-loop
-enum-told c = search needs
 
 same-length-6 : tie.Need-same-length-6 Inv-loop μ-loop
 same-length-6 c = c .before .before .before .loop .inv .same .origins
@@ -108,9 +93,6 @@ same-length-10 c = c .before .before .before .loop .inv .same .hops
 
 returns-2 : tie.Need-returns-2 Inv-loop μ-loop
 returns-2 c = going-cut (c .before .before .before .loop .inv) (sym (c .before .before .next .ensures) ∙ c .enum-told .given .1)
-
-enum-told-2 : tie.Need-enum-told-2 Inv-loop μ-loop
-enum-told-2 c = search needs
 
 same-length-11 : tie.Need-same-length-11 Inv-loop μ-loop
 same-length-11 c = c .before .before .before .loop .inv .same .origins
@@ -137,30 +119,30 @@ add-lines-spec =
     Inv-loop
     μ-loop
     loop-holds
-    next-requires
-    enum-known-next-line
+    (λ c κs. search needs)
+    (λ c. search needs)
     sub-bytes
     part-bytes-start
     part-bytes-end
     add-line-requires
-    enum-known-answer
+    (λ c. search needs)
     same-length
     same-length-2
     same-length-3
     same-length-4
     same-length-5
     returns
-    enum-known-answer-2
+    (λ c. search needs)
     loop-less
     loop-again
-    enum-told
+    (λ c. search needs)
     same-length-6
     same-length-7
     same-length-8
     same-length-9
     same-length-10
     returns-2
-    enum-told-2
+    (λ c. search needs)
     same-length-11
     same-length-12
     same-length-13

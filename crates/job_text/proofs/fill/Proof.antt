@@ -8,9 +8,6 @@ use borrow.Author.Needs.{needs}
 use Rattle.job_text.proofs.fill.Statement.{statement}
 use Rattle.job_text.proofs.fill.Tie as tie
 
-read-lines-requires : tie.Need-read-lines-requires
-read-lines-requires c κs = search needs
-
 -- the lists that are filled are as long as those that were lent
 same : (c : tie.After-read-lines)
     → let a = c .before .before .before .before .before .before .before .before .before .before .before .before .args in
@@ -19,27 +16,6 @@ same : (c : tie.After-read-lines)
 same c =
     let k = c .read-lines .kept .1 in
     record { origins = k .0; ends = k .1 .0; sources = k .1 .1 .0; stops = k .1 .1 .1 .0; hops = k .1 .1 .1 .1 .0 }
-
-kept-requires : tie.Need-kept-requires
-kept-requires c κs = search needs
-
-clear-past-requires : tie.Need-clear-past-requires
-clear-past-requires c κs = search needs
-
-same-length : tie.Need-same-length
-same-length c = search needs
-
-same-length-2 : tie.Need-same-length-2
-same-length-2 c = search needs
-
-same-length-3 : tie.Need-same-length-3
-same-length-3 c = search needs
-
-same-length-4 : tie.Need-same-length-4
-same-length-4 c = search needs
-
-same-length-5 : tie.Need-same-length-5
-same-length-5 c = search needs
 
 returns : tie.Need-returns
 returns c =
@@ -52,12 +28,12 @@ pub fill-spec : {M : Type 1} → statement M
 fill-spec =
     tie.close
     (tie.spec
-    read-lines-requires
-    kept-requires
-    clear-past-requires
-    same-length
-    same-length-2
-    same-length-3
-    same-length-4
-    same-length-5
+    (λ c κs. search needs)
+    (λ c κs. search needs)
+    (λ c κs. search needs)
+    (λ c. search needs)
+    (λ c. search needs)
+    (λ c. search needs)
+    (λ c. search needs)
+    (λ c. search needs)
     returns)

@@ -6,26 +6,11 @@ use borrow.Author.Needs.{needs}
 use Rattle.job_text.proofs.first_line.Statement.{statement}
 use Rattle.job_text.proofs.first_line.Tie as tie
 
-enum-known-said : tie.Need-enum-known-said
-enum-known-said c = search needs
-
 returns : tie.Need-returns
 returns c = λ bytes l. rw (c .before .before .said .given .1) (no-nodes _ (c .if1 .taken))
 
-wide-requires : tie.Need-wide-requires
-wide-requires c κs = search needs
-
 returns-2 : tie.Need-returns-2
 returns-2 c = λ bytes l. rw (c .before .before .before .before .said .given .1) (nodes-over _ (c .before .before .if1 .left) (omega arith))
-
-enum-told : tie.Need-enum-told
-enum-told c = search needs
-
-enum-told-2 : tie.Need-enum-told-2
-enum-told-2 c = search needs
-
-enum-told-3 : tie.Need-enum-told-3
-enum-told-3 c = search needs
 
 returns-3 : tie.Need-returns-3
 returns-3 c = λ bytes l. rw (c .before .before .before .before .said .given .1) (nodes-begin _ (c .before .before .if1 .left) (omega arith))
@@ -43,13 +28,13 @@ pub first-line-spec : {M : Type 1} → statement M
 first-line-spec =
     tie.close
     (tie.spec
-    enum-known-said
+    (λ c. search needs)
     returns
-    wide-requires
+    (λ c κs. search needs)
     returns-2
-    enum-told
-    enum-told-2
-    enum-told-3
+    (λ c. search needs)
+    (λ c. search needs)
+    (λ c. search needs)
     returns-3
     returns-4
     returns-5

@@ -3,17 +3,8 @@ use borrow.Author.Needs.{needs}
 use Rattle.job_text.proofs.kept.Statement.{statement}
 use Rattle.job_text.proofs.kept.Tie as tie
 
-enum-known-answer : tie.Need-enum-known-answer
-enum-known-answer c = search needs
-
-enum-told : tie.Need-enum-told
-enum-told c = search needs
-
-returns : tie.Need-returns
-returns c = search needs
-
 returns-2 : tie.Need-returns-2
 returns-2 c = rw (c .enum-told .given .1)
 
 pub kept-spec : {M : Type 1} → statement M
-kept-spec = tie.close (tie.spec enum-known-answer enum-told returns returns-2)
+kept-spec = tie.close (tie.spec (λ c. search needs) (λ c. search needs) (λ c. search needs) returns-2)

@@ -6,20 +6,8 @@ use Rattle.job_text.proofs.OneLine.{line-letter, line-no-number}
 use Rattle.job_text.proofs.line_of.Statement.{statement}
 use Rattle.job_text.proofs.line_of.Tie as tie
 
-letter-of-requires : tie.Need-letter-of-requires
-letter-of-requires c κs = search needs
-
-count-numbers-requires : tie.Need-count-numbers-requires
-count-numbers-requires c κs = search needs
-
-enum-known-counted : tie.Need-enum-known-counted
-enum-known-counted c = search needs
-
 line-with-requires : tie.Need-line-with-requires
 line-with-requires c κs = sym (c .before .before .before .count-numbers .ensures) ∙ ap countedTold (c .before .counted .given .1)
-
-enum-told : tie.Need-enum-told
-enum-told c = search needs
 
 returns : tie.Need-returns
 returns c = rw (line-letter, ← c .before .before .before .before .before .letter-of .ensures) (c .line-with .ensures)
@@ -31,10 +19,10 @@ pub line-of-spec : {M : Type 1} → statement M
 line-of-spec =
     tie.close
     (tie.spec
-    letter-of-requires
-    count-numbers-requires
-    enum-known-counted
+    (λ c κs. search needs)
+    (λ c κs. search needs)
+    (λ c. search needs)
     line-with-requires
-    enum-told
+    (λ c. search needs)
     returns
     returns-2)

@@ -4,15 +4,6 @@ use Rattle.job_text.proofs.OneLine.{line-nodes, line-link, line-packet,
 use Rattle.job_text.proofs.line_with.Statement.{statement}
 use Rattle.job_text.proofs.line_with.Tie as tie
 
-slice-aggregate-copy-numbers : tie.Need-slice-aggregate-copy-numbers
-slice-aggregate-copy-numbers c = search needs
-
-copy-numbers-requires : tie.Need-copy-numbers-requires
-copy-numbers-requires c κs = search needs
-
-array-read-t12 : tie.Need-array-read-t12
-array-read-t12 c = search needs
-
 returns : tie.Need-returns
 returns c =
     let w = c .before .before .before in
@@ -20,12 +11,6 @@ returns c =
 
 returns-2 : tie.Need-returns-2
 returns-2 c = line-not-nodes _ _ (c .before .before .before .before .before .before .pre) (c .before .if1 .taken) (c .if2 .left)
-
-array-read-t16 : tie.Need-array-read-t16
-array-read-t16 c = search needs
-
-array-read-t19 : tie.Need-array-read-t19
-array-read-t19 c = search needs
 
 returns-3 : tie.Need-returns-3
 returns-3 c =
@@ -37,15 +22,6 @@ returns-4 : tie.Need-returns-4
 returns-4 c =
     let n = c .before .before in
     line-not-link _ _ (n .before .before .before .before .before .pre) (n .if1 .left) (c .before .if3 .taken) (c .if4 .left)
-
-array-read-t23 : tie.Need-array-read-t23
-array-read-t23 c = search needs
-
-find-requires : tie.Need-find-requires
-find-requires c κs = search needs
-
-sub-t25 : tie.Need-sub-t25
-sub-t25 c = search needs
 
 returns-5 : tie.Need-returns-5
 returns-5 c =
@@ -69,18 +45,18 @@ pub line-with-spec : {M : Type 1} → statement M
 line-with-spec =
     tie.close
     (tie.spec
-    slice-aggregate-copy-numbers
-    copy-numbers-requires
-    array-read-t12
+    (λ c. search needs)
+    (λ c κs. search needs)
+    (λ c. search needs)
     returns
     returns-2
-    array-read-t16
-    array-read-t19
+    (λ c. search needs)
+    (λ c. search needs)
     returns-3
     returns-4
-    array-read-t23
-    find-requires
-    sub-t25
+    (λ c. search needs)
+    (λ c κs. search needs)
+    (λ c. search needs)
     returns-5
     returns-6
     returns-7)

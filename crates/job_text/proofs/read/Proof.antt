@@ -9,29 +9,11 @@ use Rattle.job_text.proofs.read.Tie as tie
 returns : tie.Need-returns
 returns c = rw (too-long _ _ (c .if1 .taken)) (text-too-long _)
 
-has-room-requires : tie.Need-has-room-requires
-has-room-requires c κs = search needs
-
 returns-2 : tie.Need-returns-2
 returns-2 c = rw (too-short _ _ (c .before .before .if1 .left) (sym (c .before .has-room .ensures) ∙ not-true _ (c .if2 .taken))) (short-room _)
 
 fill-requires : tie.Need-fill-requires
 fill-requires c κs = let e = c .before .before .before .before .before in (e .before .before .if1 .left, room-of _ (sym (e .before .has-room .ensures) ∙ not-false _ (e .if2 .left)))
-
-same-length : tie.Need-same-length
-same-length c = search needs
-
-same-length-2 : tie.Need-same-length-2
-same-length-2 c = search needs
-
-same-length-3 : tie.Need-same-length-3
-same-length-3 c = search needs
-
-same-length-4 : tie.Need-same-length-4
-same-length-4 c = search needs
-
-same-length-5 : tie.Need-same-length-5
-same-length-5 c = search needs
 
 returns-3 : tie.Need-returns-3
 returns-3 c = let e = c .before .before .before .before .before .before .before .before .before .before .before .before .before .before .before .before in rw (taken-up _ _ (e .before .before .if1 .left) (sym (e .before .has-room .ensures) ∙ not-false _ (e .if2 .left))) (c .before .before .before .before .before .before .before .before .before .before .fill .ensures)
@@ -41,12 +23,12 @@ read-spec =
     tie.close
     (tie.spec
     returns
-    has-room-requires
+    (λ c κs. search needs)
     returns-2
     fill-requires
-    same-length
-    same-length-2
-    same-length-3
-    same-length-4
-    same-length-5
+    (λ c. search needs)
+    (λ c. search needs)
+    (λ c. search needs)
+    (λ c. search needs)
+    (λ c. search needs)
     returns-3)

@@ -14,15 +14,6 @@ use borrow.Author.Needs.{needs}
 use Rattle.job_text.proofs.read_lines.Statement.{statement}
 use Rattle.job_text.proofs.read_lines.Tie as tie
 
-top-requires : tie.Need-top-requires
-top-requires c κs = search needs
-
-next-requires : tie.Need-next-requires
-next-requires c κs = search needs
-
-enum-known-next-line : tie.Need-enum-known-next-line
-enum-known-next-line c = search needs
-
 -- the line at the top
 whole : (c : tie.After-known-told)
     → let at = c .before .next-line .given .0 in
@@ -38,24 +29,12 @@ part-line-of-start c = let w = whole c in omega arith
 part-line-of-end : tie.Need-part-line-of-end
 part-line-of-end c = let w = whole c in omega arith
 
-line-of-requires : tie.Need-line-of-requires
-line-of-requires c κs = search needs
-
-first-line-requires : tie.Need-first-line-requires
-first-line-requires c κs = search needs
-
 -- what it leads to
 told : (c : tie.After-first-line)
     → let at = c .before .before .before .before .next-line .given .0 in
     let a = c .before .before .before .before .before .before .before .before .before .before .before .before .before .before .args in
     Took (firstLine (lineOf (take (at .1 .0 - at .0) (drop (at .0) (now (a .text)))))) (c .first-line .result) (lists (now (a .origins)) (now (a .ends)) (now (a .sources)) (now (a .stops)) (now (a .hops)))
 told c = rw (← c .before .line-of .ensures .says) (c .first-line .ensures _ _)
-
-enum-known-first : tie.Need-enum-known-first
-enum-known-first c = search needs
-
-enum-known-first-2 : tie.Need-enum-known-first-2
-enum-known-first-2 c = search needs
 
 add-lines-requires : tie.Need-add-lines-requires
 add-lines-requires c κs =
@@ -64,29 +43,8 @@ add-lines-requires c κs =
     let w = first-within (whole (f .before .before .before)) (told f) (c .before .before .before .before .before .before .first2 .given .1) in
     (w .0, s .pre .1, s .pre .0, w .1)
 
-enum-told : tie.Need-enum-told
-enum-told c = search needs
-
-enum-told-2 : tie.Need-enum-told-2
-enum-told-2 c = search needs
-
 returns : tie.Need-returns
 returns c = let f = c .before .before .before in first-refused (whole (f .before .before .before)) (told f) (c .before .first .given .1)
-
-same-length : tie.Need-same-length
-same-length c = search needs
-
-same-length-2 : tie.Need-same-length-2
-same-length-2 c = search needs
-
-same-length-3 : tie.Need-same-length-3
-same-length-3 c = search needs
-
-same-length-4 : tie.Need-same-length-4
-same-length-4 c = search needs
-
-same-length-5 : tie.Need-same-length-5
-same-length-5 c = search needs
 
 returns-2 : tie.Need-returns-2
 returns-2 c = let f = c .before .before .before .before .before .before .before .before .before .before .before .before .before .before .before .before .before .before .before in rw (first-on (whole (f .before .before .before)) (told f) (c .before .before .before .before .before .before .before .before .before .before .before .before .before .before .before .before .before .first2 .given .1)) (c .before .before .before .before .before .before .before .before .before .before .add-lines .ensures)
@@ -101,25 +59,25 @@ pub read-lines-spec : {M : Type 1} → statement M
 read-lines-spec =
     tie.close
     (tie.spec
-    top-requires
-    next-requires
-    enum-known-next-line
+    (λ c κs. search needs)
+    (λ c κs. search needs)
+    (λ c. search needs)
     sub-line-of
     part-line-of-start
     part-line-of-end
-    line-of-requires
-    first-line-requires
-    enum-known-first
-    enum-known-first-2
+    (λ c κs. search needs)
+    (λ c κs. search needs)
+    (λ c. search needs)
+    (λ c. search needs)
     add-lines-requires
-    enum-told
-    enum-told-2
+    (λ c. search needs)
+    (λ c. search needs)
     returns
-    same-length
-    same-length-2
-    same-length-3
-    same-length-4
-    same-length-5
+    (λ c. search needs)
+    (λ c. search needs)
+    (λ c. search needs)
+    (λ c. search needs)
+    (λ c. search needs)
     returns-2
     returns-3
     returns-4)

@@ -14,9 +14,6 @@ Inv-loop links hops times most₀ link₀ most link = (link ≤ links) × (most 
 abbrev μ-loop : tie.MeasureT-loop
 μ-loop links hops times most₀ link₀ most link = links - link
 
-tally-requires : tie.Need-tally-requires Inv-loop μ-loop
-tally-requires c κs = search needs
-
 loop-holds : tie.Need-loop-holds Inv-loop μ-loop
 loop-holds c = (omega arith, most-often-none _)
 
@@ -28,9 +25,6 @@ array-read-greater c = omega arith
 
 cast-greater : tie.Need-cast-greater Inv-loop μ-loop
 cast-greater c = let link = c .before .loop .link in omega (arith, c .before .before .tally .ensures link (omega arith), occurs-le link (c .before .before .before .before .args .hops .now), c .before .before .before .before .pre .0 .few)
-
-greater-requires : tie.Need-greater-requires Inv-loop μ-loop
-greater-requires c κs = search needs
 
 add-link : tie.Need-add-link Inv-loop μ-loop
 add-link c = omega arith
@@ -50,12 +44,12 @@ congestion-spec =
     (tie.spec
     Inv-loop
     μ-loop
-    tally-requires
+    (λ c κs. search needs)
     loop-holds
     mul-greater
     array-read-greater
     cast-greater
-    greater-requires
+    (λ c κs. search needs)
     add-link
     loop-less
     loop-again

@@ -16,15 +16,6 @@ abbrev μ-loop : tie.MeasureT-loop
 loop-holds : tie.Need-loop-holds Inv-loop μ-loop
 loop-holds c = longest-start _
 
-hop-count-requires : tie.Need-hop-count-requires Inv-loop μ-loop
-hop-count-requires c κs = search needs
-
-cast-greater : tie.Need-cast-greater Inv-loop μ-loop
-cast-greater c = search needs
-
-greater-requires : tie.Need-greater-requires Inv-loop μ-loop
-greater-requires c κs = search needs
-
 add-k : tie.Need-add-k Inv-loop μ-loop
 add-k c = omega arith
 
@@ -44,9 +35,9 @@ dilation-spec =
     Inv-loop
     μ-loop
     loop-holds
-    hop-count-requires
-    cast-greater
-    greater-requires
+    (λ c κs. search needs)
+    (λ c. search needs)
+    (λ c κs. search needs)
     add-k
     loop-less
     loop-again

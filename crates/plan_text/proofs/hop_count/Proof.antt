@@ -4,24 +4,6 @@ use Rattle.plan_text.proofs.Stops.{hop-count-first, hop-count-later, st
 use Rattle.plan_text.proofs.hop_count.Statement.{statement}
 use Rattle.plan_text.proofs.hop_count.Tie as tie
 
-shared-slice-read-t6 : tie.Need-shared-slice-read-t6
-shared-slice-read-t6 c = search needs
-
-mul-t7 : tie.Need-mul-t7
-mul-t7 c = search needs
-
-shared-slice-read-t9 : tie.Need-shared-slice-read-t9
-shared-slice-read-t9 c = search needs
-
-sub-t10 : tie.Need-sub-t10
-sub-t10 c = search needs
-
-mul-t11 : tie.Need-mul-t11
-mul-t11 c = search needs
-
-shared-slice-read-t13 : tie.Need-shared-slice-read-t13
-shared-slice-read-t13 c = search needs
-
 sub-t14 : tie.Need-sub-t14
 sub-t14 c = let s = c .before .before .before in stop-before _ (s .pre .0) (s .args .k) (c .before .before .if1 .left) (s .pre .1)
 
@@ -35,12 +17,12 @@ pub hop-count-spec : {M : Type 1} → statement M
 hop-count-spec =
     tie.close
     (tie.spec
-    shared-slice-read-t6
-    mul-t7
-    shared-slice-read-t9
-    sub-t10
-    mul-t11
-    shared-slice-read-t13
+    (λ c. search needs)
+    (λ c. search needs)
+    (λ c. search needs)
+    (λ c. search needs)
+    (λ c. search needs)
+    (λ c. search needs)
     sub-t14
     returns
     returns-2)

@@ -16,26 +16,14 @@ abbrev μ-loop : tie.MeasureT-loop
 loop-holds : tie.Need-loop-holds Inv-loop μ-loop
 loop-holds c = lines-start _ _ _
 
-end-requires : tie.Need-end-requires Inv-loop μ-loop
-end-requires c κs = search needs
-
 cast-line-of-three : tie.Need-cast-line-of-three Inv-loop μ-loop
 cast-line-of-three c = omega arith
 
 cast-line-of-three-2 : tie.Need-cast-line-of-three-2 Inv-loop μ-loop
 cast-line-of-three-2 c = omega arith
 
-mul-line-of-three : tie.Need-mul-line-of-three Inv-loop μ-loop
-mul-line-of-three c = search needs
-
 shared-slice-read-line-of-three : tie.Need-shared-slice-read-line-of-three Inv-loop μ-loop
 shared-slice-read-line-of-three c = omega arith
-
-cast-line-of-three-3 : tie.Need-cast-line-of-three-3 Inv-loop μ-loop
-cast-line-of-three-3 c = search needs
-
-line-of-three-requires : tie.Need-line-of-three-requires Inv-loop μ-loop
-line-of-three-requires c κs = search needs
 
 add-k : tie.Need-add-k Inv-loop μ-loop
 add-k c = omega arith
@@ -59,13 +47,13 @@ packet-lines-spec =
     Inv-loop
     μ-loop
     loop-holds
-    end-requires
+    (λ c κs. search needs)
     cast-line-of-three
     cast-line-of-three-2
-    mul-line-of-three
+    (λ c. search needs)
     shared-slice-read-line-of-three
-    cast-line-of-three-3
-    line-of-three-requires
+    (λ c. search needs)
+    (λ c κs. search needs)
     add-k
     loop-less
     loop-again

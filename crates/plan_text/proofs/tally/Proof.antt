@@ -21,14 +21,8 @@ link-exists c = rw (c .wide .ensures) (c .before .before .before .before .before
 loop-holds : tie.Need-loop-holds Inv-loop μ-loop
 loop-holds c = tally-start _
 
-mul-wide : tie.Need-mul-wide Inv-loop μ-loop
-mul-wide c = search needs
-
 shared-slice-read-wide : tie.Need-shared-slice-read-wide Inv-loop μ-loop
 shared-slice-read-wide c = omega arith
-
-wide-requires : tie.Need-wide-requires Inv-loop μ-loop
-wide-requires c κs = search needs
 
 mul-times : tie.Need-mul-times Inv-loop μ-loop
 mul-times c = omega (arith, link-exists c)
@@ -61,9 +55,9 @@ tally-spec =
     Inv-loop
     μ-loop
     loop-holds
-    mul-wide
+    (λ c. search needs)
     shared-slice-read-wide
-    wide-requires
+    (λ c κs. search needs)
     mul-times
     array-read-times
     add-times

@@ -4,20 +4,8 @@ use Rattle.plan_text.proofs.WritingPlans.{write-refused, fine-listed, f
 use Rattle.plan_text.proofs.write.Statement.{statement}
 use Rattle.plan_text.proofs.write.Tie as tie
 
-started-requires : tie.Need-started-requires
-started-requires c κs = search needs
-
-enum-known-verdict : tie.Need-enum-known-verdict
-enum-known-verdict c = search needs
-
 returns : tie.Need-returns
 returns c = write-refused _ _ _ (c .before .before .before .started .ensures) _ (c .before .verdict .given .1) _
-
-enum-told : tie.Need-enum-told
-enum-told c = search needs
-
-slice-aggregate-text : tie.Need-slice-aggregate-text
-slice-aggregate-text c = search needs
 
 text-requires : tie.Need-text-requires
 text-requires c κs = fine-listed _ _ _ (c .before .before .before .started .ensures) (c .before .enum-told .given .1)
@@ -31,12 +19,6 @@ returns-2 c =
 text-requires-2 : tie.Need-text-requires-2
 text-requires-2 c κs = fine-listed _ _ _ (c .before .before .before .before .before .before .before .started .ensures) (c .before .before .before .before .before .enum-told .given .1)
 
-cast-t21 : tie.Need-cast-t21
-cast-t21 c = search needs
-
-same-length : tie.Need-same-length
-same-length c = search needs
-
 returns-3 : tie.Need-returns-3
 returns-3 c =
     let verdict = c .before .before .before .before .before .before .before .before .before .before .started .ensures in
@@ -48,14 +30,14 @@ pub write-spec : {M : Type 1} → statement M
 write-spec =
     tie.close
     (tie.spec
-    started-requires
-    enum-known-verdict
+    (λ c κs. search needs)
+    (λ c. search needs)
     returns
-    enum-told
-    slice-aggregate-text
+    (λ c. search needs)
+    (λ c. search needs)
     text-requires
     returns-2
     text-requires-2
-    cast-t21
-    same-length
+    (λ c. search needs)
+    (λ c. search needs)
     returns-3)

@@ -13,23 +13,8 @@ begin-after : (stops : List ℕ) (k r : ℕ) → (k ≡ 0 → ⊥) → r ≡ get
 begin-after stops zero r n e = absurd (n refl)
 begin-after stops (suc k) r n e = let z : suc k - 1 ≡ k = omega arith in rw z at e
 
-sub-wide : tie.Need-sub-wide
-sub-wide c = search needs
-
-mul-wide : tie.Need-mul-wide
-mul-wide c = search needs
-
-shared-slice-read-wide : tie.Need-shared-slice-read-wide
-shared-slice-read-wide c = search needs
-
-wide-requires : tie.Need-wide-requires
-wide-requires c κs = search needs
-
-returns : tie.Need-returns
-returns c = search needs
-
 returns-2 : tie.Need-returns-2
 returns-2 c = search (needs, begin-after)
 
 pub begin-spec : {M : Type 1} → statement M
-begin-spec = tie.close (tie.spec sub-wide mul-wide shared-slice-read-wide wide-requires returns returns-2)
+begin-spec = tie.close (tie.spec (λ c. search needs) (λ c. search needs) (λ c. search needs) (λ c κs. search needs) (λ c. search needs) returns-2)

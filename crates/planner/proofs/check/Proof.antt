@@ -7,17 +7,8 @@ use Rattle.planner.proofs.CheckAndLead.{fine-started, checked-refused, 
 use Rattle.planner.proofs.check.Statement.{statement}
 use Rattle.planner.proofs.check.Tie as tie
 
-started-requires : tie.Need-started-requires
-started-requires c κs = search needs
-
-enum-known-verdict : tie.Need-enum-known-verdict
-enum-known-verdict c = search needs
-
 returns : tie.Need-returns
 returns c = checked-refused _ _ _ (c .before .before .before .started .ensures) _ (c .before .verdict .given .1)
-
-enum-told : tie.Need-enum-told
-enum-told c = search needs
 
 first-clash-requires : tie.Need-first-clash-requires
 first-clash-requires c κs =
@@ -29,4 +20,4 @@ returns-2 : tie.Need-returns-2
 returns-2 c = c .first-clash .ensures ∙ checked-found _ _ _ (c .before .before .before .started .ensures) (c .before .enum-told .given .1)
 
 pub check-spec : {M : Type 1} → statement M
-check-spec = tie.close (tie.spec started-requires enum-known-verdict returns enum-told first-clash-requires returns-2)
+check-spec = tie.close (tie.spec (λ c κs. search needs) (λ c. search needs) returns (λ c. search needs) first-clash-requires returns-2)

@@ -19,33 +19,15 @@ Inv-loop stops hops starts k links hop₀ hop =
 abbrev μ-loop : tie.MeasureT-loop
 μ-loop stops hops starts k links hop₀ hop = length links - hop
 
-path-requires : tie.Need-path-requires Inv-loop μ-loop
-path-requires c κs = search needs
-
 loop-holds : tie.Need-loop-holds Inv-loop μ-loop
 unfolding clashAt
 loop-holds c = (omega arith, rw (c .path .ensures))
-
-mul-link : tie.Need-mul-link Inv-loop μ-loop
-mul-link c = search needs
-
-shared-slice-read-link : tie.Need-shared-slice-read-link Inv-loop μ-loop
-shared-slice-read-link c = search needs
-
-mul-of : tie.Need-mul-of Inv-loop μ-loop
-mul-of c = search needs
-
-shared-slice-read-of : tie.Need-shared-slice-read-of Inv-loop μ-loop
-shared-slice-read-of c = search needs
 
 cast-t15 : tie.Need-cast-t15 Inv-loop μ-loop
 cast-t15 c =
     let w = c .before .before .before .before in
     let s = w .before .before .before .before in
     omega (arith, ap length (w .path .ensures), path-le-hops _ _ _ (s .pre .0) (s .pre .1))
-
-of-requires : tie.Need-of-requires Inv-loop μ-loop
-of-requires c κs = search needs
 
 taken-requires : tie.Need-taken-requires Inv-loop μ-loop
 taken-requires c κs = search needs
@@ -55,19 +37,10 @@ holder-requires c κs =
     let s = c .before .before .before .before .before .before .before .before .before .before .before in
     (s .pre .0, omega arith, omega arith, omega arith, sym (c .before .taken .ensures) ∙ c .if1 .taken)
 
-cast-t18 : tie.Need-cast-t18 Inv-loop μ-loop
-cast-t18 c = search needs
-
 returns : tie.Need-returns Inv-loop μ-loop
 returns c =
     let l = c .before .before .before .before .before .before .before in
     ap clearOr (sym (l .loop .inv .1 ∙ clash-here _ _ _ _ _ (omega arith) _ _ (c .before .before .before .of .ensures) (c .holder .ensures)))
-
-add-hop : tie.Need-add-hop Inv-loop μ-loop
-add-hop c = search needs
-
-loop-less : tie.Need-loop-less Inv-loop μ-loop
-loop-less c = search needs
 
 loop-again : tie.Need-loop-again Inv-loop μ-loop
 loop-again c =
@@ -83,19 +56,19 @@ clash-of-spec =
     (tie.spec
     Inv-loop
     μ-loop
-    path-requires
+    (λ c κs. search needs)
     loop-holds
-    mul-link
-    shared-slice-read-link
-    mul-of
-    shared-slice-read-of
+    (λ c. search needs)
+    (λ c. search needs)
+    (λ c. search needs)
+    (λ c. search needs)
     cast-t15
-    of-requires
+    (λ c κs. search needs)
     taken-requires
     holder-requires
-    cast-t18
+    (λ c. search needs)
     returns
-    add-hop
-    loop-less
+    (λ c. search needs)
+    (λ c. search needs)
     loop-again
     returns-2)

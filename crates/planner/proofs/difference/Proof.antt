@@ -4,20 +4,8 @@ use Rattle.planner.proofs.Differences.{step-fits, bits-fit, bits-are, n
 use Rattle.planner.proofs.difference.Statement.{statement}
 use Rattle.planner.proofs.difference.Tie as tie
 
-enum-known-first : tie.Need-enum-known-first
-enum-known-first c = search needs
-
-enum-told : tie.Need-enum-told
-enum-told c = search needs
-
 returns : tie.Need-returns
 returns c = no-first (c .before .before .args .second) (c .enum-told .given .1)
-
-enum-known-second : tie.Need-enum-known-second
-enum-known-second c = search needs
-
-enum-told-2 : tie.Need-enum-told-2
-enum-told-2 c = search needs
 
 returns-2 : tie.Need-returns-2
 returns-2 c = no-second (c .before .before .before .before .before .args .first) (c .enum-told2 .given .1)
@@ -43,4 +31,4 @@ returns-3 c =
 pub difference-spec : {M : Type 1} → statement M
 difference-spec =
     tie.close
-    (tie.spec enum-known-first enum-told returns enum-known-second enum-told-2 returns-2 cast-t7 cast-t8 sub-t9 returns-3)
+    (tie.spec (λ c. search needs) (λ c. search needs) returns (λ c. search needs) (λ c. search needs) returns-2 cast-t7 cast-t8 sub-t9 returns-3)

@@ -11,12 +11,6 @@ returns c = before-start _ _ _ _ (omega arith)
 sub-hop : tie.Need-sub-hop
 sub-hop c = search needs
 
-cast-hop : tie.Need-cast-hop
-cast-hop c = search needs
-
-mul-result : tie.Need-mul-result
-mul-result c = search needs
-
 shared-slice-read-result : tie.Need-shared-slice-read-result
 shared-slice-read-result c = search needs
 
@@ -27,4 +21,4 @@ returns-3 : tie.Need-returns-3
 returns-3 c = past-path _ _ _ _ (omega arith) (omega arith)
 
 pub enters-spec : {M : Type 1} → statement M
-enters-spec = tie.close (tie.spec returns sub-hop cast-hop mul-result shared-slice-read-result returns-2 returns-3)
+enters-spec = tie.close (tie.spec returns sub-hop (λ c. search needs) (λ c. search needs) shared-slice-read-result returns-2 returns-3)

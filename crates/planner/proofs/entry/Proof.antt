@@ -47,46 +47,19 @@ asked w = entry-of-packet _ _ _ _ _ _ _ (w .before .before .wide .ensures) (w .p
 short : (w : P) → length (now (w .path .result)) ≤ hopsMost
 short w = omega (arith, ap length (w .path .ensures), path-le-hops _ _ (w .before .before .wide .result) (start w .pre .0) (omega arith))
 
-wide-requires : tie.Need-wide-requires Inv-loop μ-loop
-wide-requires c κs = search needs
-
 returns : tie.Need-returns Inv-loop μ-loop
 returns c = (no-packet _ _ _ _ _ (omega arith), tt)
-
-path-requires : tie.Need-path-requires Inv-loop μ-loop
-path-requires c κs = search needs
 
 loop-holds : tie.Need-loop-holds Inv-loop μ-loop
 loop-holds c = (omega arith, plus-zero _ _ _)
 
-mul-if2 : tie.Need-mul-if2 Inv-loop μ-loop
-mul-if2 c = search needs
-
-shared-slice-read-if2 : tie.Need-shared-slice-read-if2 Inv-loop μ-loop
-shared-slice-read-if2 c = search needs
-
-mul-of : tie.Need-mul-of Inv-loop μ-loop
-mul-of c = search needs
-
-shared-slice-read-of : tie.Need-shared-slice-read-of Inv-loop μ-loop
-shared-slice-read-of c = search needs
-
 cast-t19 : tie.Need-cast-t19 Inv-loop μ-loop
 cast-t19 c = omega (arith, short (c .before .before .before .before .before))
-
-of-requires : tie.Need-of-requires Inv-loop μ-loop
-of-requires c κs = search needs
 
 returns-2 : tie.Need-returns-2 Inv-loop μ-loop
 returns-2 c =
     let l = c .before .before .before .before .before in
     (found (c .of .ensures) (asked (l .before) ∙ l .loop .inv .1 ∙ entry-here _ _ _ (l .loop .hop) (c .before .before .before .before .loop-test .taken) (c .before .before .if2 .taken)), omega (arith, c .of .ensures, c .before .shared-slice-known5 .given (l .before .before .before .wide .result), short (l .before)))
-
-add-hop : tie.Need-add-hop Inv-loop μ-loop
-add-hop c = search needs
-
-loop-less : tie.Need-loop-less Inv-loop μ-loop
-loop-less c = search needs
 
 loop-again : tie.Need-loop-again Inv-loop μ-loop
 loop-again c =
@@ -104,18 +77,18 @@ entry-spec =
     (tie.spec
     Inv-loop
     μ-loop
-    wide-requires
+    (λ c κs. search needs)
     returns
-    path-requires
+    (λ c κs. search needs)
     loop-holds
-    mul-if2
-    shared-slice-read-if2
-    mul-of
-    shared-slice-read-of
+    (λ c. search needs)
+    (λ c. search needs)
+    (λ c. search needs)
+    (λ c. search needs)
     cast-t19
-    of-requires
+    (λ c κs. search needs)
     returns-2
-    add-hop
-    loop-less
+    (λ c. search needs)
+    (λ c. search needs)
     loop-again
     returns-3)

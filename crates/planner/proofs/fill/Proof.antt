@@ -20,28 +20,10 @@ abbrev μ-loop : tie.MeasureT-loop
 loop-holds : tie.Need-loop-holds Inv-loop μ-loop
 loop-holds c = (omega arith, refl, refl)
 
-sub-search : tie.Need-sub-search Inv-loop μ-loop
-sub-search c = search needs
-
-part-search-start : tie.Need-part-search-start Inv-loop μ-loop
-part-search-start c = search needs
-
-part-search-end : tie.Need-part-search-end Inv-loop μ-loop
-part-search-end c = search needs
-
 search-requires : tie.Need-search-requires Inv-loop μ-loop
 search-requires c κs =
     let l = c .before .before .before in
     (l .before .before .before .before .pre .0, omega (arith, length-take (l .loop .k - 0) (l .loop .starts)))
-
-mul-starts : tie.Need-mul-starts Inv-loop μ-loop
-mul-starts c = search needs
-
-slice-write-starts : tie.Need-slice-write-starts Inv-loop μ-loop
-slice-write-starts c = search needs
-
-add-k : tie.Need-add-k Inv-loop μ-loop
-add-k c = search needs
 
 loop-less : tie.Need-loop-less Inv-loop μ-loop
 loop-less c = search needs
@@ -52,9 +34,6 @@ loop-again c =
     let a = l .before .before .before .before in
     let z : l .loop .k - 0 ≡ l .loop .k = omega arith in
     (omega arith, simp length-set (l .loop .inv .1), one-more _ _ _ _ _ (omega arith) (a .pre .1) (l .loop .inv .2) _ (rw z at (c .search .ensures)))
-
-same-length : tie.Need-same-length Inv-loop μ-loop
-same-length c = search needs
 
 returns : tie.Need-returns Inv-loop μ-loop
 returns c =
@@ -70,14 +49,14 @@ fill-spec =
     Inv-loop
     μ-loop
     loop-holds
-    sub-search
-    part-search-start
-    part-search-end
+    (λ c. search needs)
+    (λ c. search needs)
+    (λ c. search needs)
     search-requires
-    mul-starts
-    slice-write-starts
-    add-k
+    (λ c. search needs)
+    (λ c. search needs)
+    (λ c. search needs)
     loop-less
     loop-again
-    same-length
+    (λ c. search needs)
     returns)

@@ -23,23 +23,11 @@ abbrev μ-loop : tie.MeasureT-loop
 loop-holds : tie.Need-loop-holds Inv-loop μ-loop
 loop-holds c = (omega arith, refl)
 
-clash-of-requires : tie.Need-clash-of-requires Inv-loop μ-loop
-clash-of-requires c κs = search needs
-
-enum-told : tie.Need-enum-told Inv-loop μ-loop
-enum-told c = search needs
-
 returns : tie.Need-returns Inv-loop μ-loop
 returns c =
     let l = c .before .before .before in
     rw (l .loop .inv .1) (first-here _ _ _ (l .before .before .before .before .pre .1) _ (omega arith) (c .before .clash-of .ensures)
     (λ e. ⊎-elim (λ q. omega arith) (λ q. omega arith) (rw e at (c .match .keys2))))
-
-add-later : tie.Need-add-later Inv-loop μ-loop
-add-later c = search needs
-
-loop-less : tie.Need-loop-less Inv-loop μ-loop
-loop-less c = search needs
 
 loop-again : tie.Need-loop-again Inv-loop μ-loop
 loop-again c =
@@ -56,10 +44,10 @@ first-clash-spec =
     Inv-loop
     μ-loop
     loop-holds
-    clash-of-requires
-    enum-told
+    (λ c κs. search needs)
+    (λ c. search needs)
     returns
-    add-later
-    loop-less
+    (λ c. search needs)
+    (λ c. search needs)
     loop-again
     returns-2)

@@ -9,17 +9,8 @@ use Rattle.planner.proofs.CheckAndLead.{fine-started, led-refused, led-
 use Rattle.planner.proofs.lead.Statement.{statement}
 use Rattle.planner.proofs.lead.Tie as tie
 
-started-requires : tie.Need-started-requires
-started-requires c κs = search needs
-
-enum-known-verdict : tie.Need-enum-known-verdict
-enum-known-verdict c = search needs
-
 returns : tie.Need-returns
 returns c = led-refused _ _ _ (c .before .before .before .started .ensures) _ _ _ _ (c .before .verdict .given .1)
-
-enum-told : tie.Need-enum-told
-enum-told c = search needs
 
 returns-2 : tie.Need-returns-2
 returns-2 c = led-itself _ _ _ (c .before .before .before .started .ensures) _ _ _ (c .before .enum-told .given .1) (c .if1 .taken)
@@ -36,9 +27,6 @@ entry-requires c κs = lent c
 entry-requires-2 : tie.Need-entry-requires-2
 entry-requires-2 c κs = lent (c .before)
 
-difference-requires : tie.Need-difference-requires
-difference-requires c κs = search needs
-
 returns-3 : tie.Need-returns-3
 returns-3 c =
     let f = c .before .before .before in
@@ -49,12 +37,12 @@ pub lead-spec : {M : Type 1} → statement M
 lead-spec =
     tie.close
     (tie.spec
-    started-requires
-    enum-known-verdict
+    (λ c κs. search needs)
+    (λ c. search needs)
     returns
-    enum-told
+    (λ c. search needs)
     returns-2
     entry-requires
     entry-requires-2
-    difference-requires
+    (λ c κs. search needs)
     returns-3)

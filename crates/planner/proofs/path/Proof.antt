@@ -13,18 +13,6 @@ cut : (w : tie.After-wide)
     → let a = w .before .before .before .before .before .args in Part (now (a .hops)) (pathAt (now (a .stops)) (now (a .hops)) (a .k)) (w .before .before .begin .result) (w .wide .result)
 cut w = let s = w .before .before .before .before .before in part _ _ _ (s .pre .0) (s .pre .1) _ _ (w .before .before .begin .ensures) (w .wide .ensures)
 
-begin-requires : tie.Need-begin-requires
-begin-requires c κs = search needs
-
-mul-wide : tie.Need-mul-wide
-mul-wide c = search needs
-
-shared-slice-read-wide : tie.Need-shared-slice-read-wide
-shared-slice-read-wide c = search needs
-
-wide-requires : tie.Need-wide-requires
-wide-requires c κs = search needs
-
 mul-result : tie.Need-mul-result
 mul-result c = omega (arith, cut c)
 
@@ -44,10 +32,10 @@ pub path-spec : {M : Type 1} → statement M
 path-spec =
     tie.close
     (tie.spec
-    begin-requires
-    mul-wide
-    shared-slice-read-wide
-    wide-requires
+    (λ c κs. search needs)
+    (λ c. search needs)
+    (λ c. search needs)
+    (λ c κs. search needs)
     mul-result
     sub-result
     part-result-start

@@ -5,15 +5,6 @@ use Rattle.planner.proofs.Planning.{job-listed, fine-job, plan-refused,
 use Rattle.planner.proofs.plan.Statement.{statement}
 use Rattle.planner.proofs.plan.Tie as tie
 
-tables-requires : tie.Need-tables-requires
-tables-requires c κs = search needs
-
-enum-told : tie.Need-enum-told
-enum-told c = search needs
-
-enum-told-2 : tie.Need-enum-told-2
-enum-told-2 c = search needs
-
 returns : tie.Need-returns
 returns c = plan-refused _ _ (c .before .before .tables .ensures) _ (c .enum-told2 .given .1) _
 
@@ -26,13 +17,10 @@ fill-requires c κs =
     let job = fine-job _ _ (t .tables .ensures) (c .before .before .enum-told .given .1) in
     (job-listed _ job, omega (arith, job .stops-count))
 
-same-length : tie.Need-same-length
-same-length c = search needs
-
 returns-3 : tie.Need-returns-3
 returns-3 c =
     let t = c .before .before .before .before .before .before .before in
     plan-filled _ _ (t .tables .ensures) (c .before .before .before .before .before .enum-told .given .1) _ _ (omega arith) (c .before .before .fill .ensures)
 
 pub plan-spec : {M : Type 1} → statement M
-plan-spec = tie.close (tie.spec tables-requires enum-told enum-told-2 returns returns-2 fill-requires same-length returns-3)
+plan-spec = tie.close (tie.spec (λ c κs. search needs) (λ c. search needs) (λ c. search needs) returns returns-2 fill-requires (λ c. search needs) returns-3)

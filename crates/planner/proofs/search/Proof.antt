@@ -55,26 +55,14 @@ passed c =
     start-passed _ _ _ _ (h .before .before .path .ensures) _ (h .before .search .inv) (l .loop .j) (h .hops .hop) _ _ (omega arith) (omega arith) (omega arith) refl (l .before .of .ensures)
     (sym (c .before .packet-enters .ensures) ∙ c .if2 .taken)
 
-path-requires : tie.Need-path-requires Inv-loop μ-loop Inv-hops μ-hops Inv-search μ-search
-path-requires c κs = search needs
-
 search-holds : tie.Need-search-holds Inv-loop μ-loop Inv-hops μ-hops Inv-search μ-search
 search-holds c = omega arith
 
 hops-holds : tie.Need-hops-holds Inv-loop μ-loop Inv-hops μ-hops Inv-search μ-search
 hops-holds c = (omega arith, below-none _)
 
-mul-link : tie.Need-mul-link Inv-loop μ-loop Inv-hops μ-hops Inv-search μ-search
-mul-link c = search needs
-
-shared-slice-read-link : tie.Need-shared-slice-read-link Inv-loop μ-loop Inv-hops μ-hops Inv-search μ-search
-shared-slice-read-link c = search needs
-
 cast-t15 : tie.Need-cast-t15 Inv-loop μ-loop Inv-hops μ-hops Inv-search μ-search
 cast-t15 c = omega (arith, short (c .before .before .before .before))
-
-of-requires : tie.Need-of-requires Inv-loop μ-loop Inv-hops μ-hops Inv-search μ-search
-of-requires c κs = search needs
 
 loop-holds : tie.Need-loop-holds Inv-loop μ-loop Inv-hops μ-hops Inv-search μ-search
 loop-holds c = (omega arith, below-none _)
@@ -84,20 +72,8 @@ packet-enters-requires c κs =
     let s = c .before .before .before .before .before .before .before .before .before .before .before in
     (s .pre .0, omega arith, omega arith)
 
-add-j : tie.Need-add-j Inv-loop μ-loop Inv-hops μ-hops Inv-search μ-search
-add-j c = search needs
-
-loop-less : tie.Need-loop-less Inv-loop μ-loop Inv-hops μ-hops Inv-search μ-search
-loop-less c = search needs
-
 loop-again : tie.Need-loop-again Inv-loop μ-loop Inv-hops μ-hops Inv-search μ-search
 loop-again c = (omega arith, below-more _ _ (c .before .before .before .loop .inv .1) (sym (c .before .packet-enters .ensures) ∙ c .if2 .left))
-
-add-hop : tie.Need-add-hop Inv-loop μ-loop Inv-hops μ-hops Inv-search μ-search
-add-hop c = search needs
-
-hops-less : tie.Need-hops-less Inv-loop μ-loop Inv-hops μ-hops Inv-search μ-search
-hops-less c = search needs
 
 hops-again : tie.Need-hops-again Inv-loop μ-loop Inv-hops μ-hops Inv-search μ-search
 hops-again c =
@@ -132,20 +108,20 @@ search-spec =
     μ-hops
     Inv-search
     μ-search
-    path-requires
+    (λ c κs. search needs)
     search-holds
     hops-holds
-    mul-link
-    shared-slice-read-link
+    (λ c. search needs)
+    (λ c. search needs)
     cast-t15
-    of-requires
+    (λ c κs. search needs)
     loop-holds
     packet-enters-requires
-    add-j
-    loop-less
+    (λ c. search needs)
+    (λ c. search needs)
     loop-again
-    add-hop
-    hops-less
+    (λ c. search needs)
+    (λ c. search needs)
     hops-again
     add-start
     search-less

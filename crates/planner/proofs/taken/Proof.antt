@@ -19,17 +19,8 @@ abbrev μ-loop : tie.MeasureT-loop
 loop-holds : tie.Need-loop-holds Inv-loop μ-loop
 loop-holds c = (omega arith, below-none _)
 
-packet-enters-requires : tie.Need-packet-enters-requires Inv-loop μ-loop
-packet-enters-requires c κs = search needs
-
 returns : tie.Need-returns Inv-loop μ-loop
 returns c = sym (taken-by-one _ _ _ _ (omega arith) (omega arith) _ _ _ (omega arith) (sym (c .before .packet-enters .ensures) ∙ c .if1 .taken))
-
-add-j : tie.Need-add-j Inv-loop μ-loop
-add-j c = search needs
-
-loop-less : tie.Need-loop-less Inv-loop μ-loop
-loop-less c = search needs
 
 loop-again : tie.Need-loop-again Inv-loop μ-loop
 loop-again c = (omega arith, below-more _ _ (c .before .before .before .loop .inv .1) (sym (c .before .packet-enters .ensures) ∙ c .if1 .left))
@@ -38,4 +29,4 @@ returns-2 : tie.Need-returns-2 Inv-loop μ-loop
 returns-2 c = sym (taken-by-none _ _ _ _ (omega arith) (omega arith) _ _ (λ i l. c .before .loop .inv .1 i (omega arith)))
 
 pub taken-spec : {M : Type 1} → statement M
-taken-spec = tie.close (tie.spec Inv-loop μ-loop loop-holds packet-enters-requires returns add-j loop-less loop-again returns-2)
+taken-spec = tie.close (tie.spec Inv-loop μ-loop loop-holds (λ c κs. search needs) returns (λ c. search needs) (λ c. search needs) loop-again returns-2)

@@ -22,12 +22,6 @@ abbrev μ-loop : tie.MeasureT-loop
 loop-holds : tie.Need-loop-holds Inv-loop μ-loop
 loop-holds c = (omega arith, plus-none _)
 
-next-field-requires : tie.Need-next-field-requires Inv-loop μ-loop
-next-field-requires c κs = search needs
-
-enum-known-field : tie.Need-enum-known-field Inv-loop μ-loop
-enum-known-field c = search needs
-
 -- the field that was read
 here : (c : tie.After-known-told Inv-loop μ-loop)
     → let w = c .before .before .before in
@@ -46,16 +40,10 @@ loop-again c =
     let l = c .before .before .before .before in
     (omega arith, l .loop .inv .1 ∙ rw (f .numbers, plus-one))
 
-enum-told : tie.Need-enum-told Inv-loop μ-loop
-enum-told c = search needs
-
 returns : tie.Need-returns Inv-loop μ-loop
 returns c =
     let w = c .before .before in
     sym (w .before .loop .inv .1 ∙ rw (unsaid-field _ _ (sym (w .next-field .ensures) ∙ c .enum-told .given .1) .0))
-
-enum-told-2 : tie.Need-enum-told-2 Inv-loop μ-loop
-enum-told-2 c = search needs
 
 returns-2 : tie.Need-returns-2 Inv-loop μ-loop
 unfolding numbersOf
@@ -70,12 +58,12 @@ count-numbers-spec =
     Inv-loop
     μ-loop
     loop-holds
-    next-field-requires
-    enum-known-field
+    (λ c κs. search needs)
+    (λ c. search needs)
     add-count
     loop-less
     loop-again
-    enum-told
+    (λ c. search needs)
     returns
-    enum-told-2
+    (λ c. search needs)
     returns-2)

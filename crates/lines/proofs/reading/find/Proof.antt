@@ -23,9 +23,6 @@ shared-slice-read-if1 c = search needs
 returns : tie.Need-returns Inv-loop μ-loop
 returns c = found _ _ _ (c .before .before .before .loop .inv) (c .before .before .loop-test .taken) (c .if1 .taken)
 
-add-i : tie.Need-add-i Inv-loop μ-loop
-add-i c = search needs
-
 loop-less : tie.Need-loop-less Inv-loop μ-loop
 loop-less c = search needs
 
@@ -44,7 +41,7 @@ find-spec =
     loop-holds
     shared-slice-read-if1
     returns
-    add-i
+    (λ c. search needs)
     loop-less
     loop-again
     returns-2)

@@ -8,9 +8,6 @@ use Rattle.lines.proofs.FieldsLeft.{letter-here, letter-none}
 use Rattle.lines.proofs.reading.letter_of.Statement.{statement}
 use Rattle.lines.proofs.reading.letter_of.Tie as tie
 
-find-requires : tie.Need-find-requires
-find-requires c κs = search needs
-
 shared-slice-read-result : tie.Need-shared-slice-read-result
 shared-slice-read-result c = omega (arith, before-le tab (now (c .before .before .before .before .args .line)))
 
@@ -21,4 +18,4 @@ returns-2 : tie.Need-returns-2
 returns-2 c = letter-none _ (λ e. c .if1 .left (omega arith))
 
 pub letter-of-spec : {M : Type 1} → statement M
-letter-of-spec = tie.close (tie.spec find-requires shared-slice-read-result returns returns-2)
+letter-of-spec = tie.close (tie.spec (λ c κs. search needs) shared-slice-read-result returns returns-2)

@@ -8,29 +8,8 @@ use Rattle.lines.proofs.reading.next_field.Tie as tie
 returns : tie.Need-returns
 returns c = sym (next-none _ _ (c .if1 .taken))
 
-add-begin : tie.Need-add-begin
-add-begin c = search needs
-
-find-requires : tie.Need-find-requires
-find-requires c κs = search needs
-
-sub-number-of : tie.Need-sub-number-of
-sub-number-of c = search needs
-
-part-number-of-start : tie.Need-part-number-of-start
-part-number-of-start c = search needs
-
 part-number-of-end : tie.Need-part-number-of-end
 part-number-of-end c = field-within _ _ (c .before .if1 .left) (c .find .ensures)
-
-number-of-requires : tie.Need-number-of-requires
-number-of-requires c κs = search needs
-
-enum-known-number : tie.Need-enum-known-number
-enum-known-number c = search needs
-
-enum-told : tie.Need-enum-told
-enum-told c = search needs
 
 returns-2 : tie.Need-returns-2
 returns-2 c =
@@ -47,13 +26,13 @@ next-field-spec =
     tie.close
     (tie.spec
     returns
-    add-begin
-    find-requires
-    sub-number-of
-    part-number-of-start
+    (λ c. search needs)
+    (λ c κs. search needs)
+    (λ c. search needs)
+    (λ c. search needs)
     part-number-of-end
-    number-of-requires
-    enum-known-number
-    enum-told
+    (λ c κs. search needs)
+    (λ c. search needs)
+    (λ c. search needs)
     returns-2
     returns-3)

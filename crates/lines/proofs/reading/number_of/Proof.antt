@@ -21,17 +21,11 @@ abbrev μ-loop : tie.MeasureT-loop
 returns : tie.Need-returns Inv-loop μ-loop
 returns c = sym (number-empty _ (c .if1 .taken))
 
-shared-slice-read-if3 : tie.Need-shared-slice-read-if3 Inv-loop μ-loop
-shared-slice-read-if3 c = search needs
-
 returns-2 : tie.Need-returns-2 Inv-loop μ-loop
 returns-2 c = sym (number-zero _ (c .before .before .if2 .taken) (eqb-true _ 48 (c .if3 .taken)))
 
 loop-holds : tie.Need-loop-holds Inv-loop μ-loop
 loop-holds c = (omega arith, ⊎-elim (λ w. number-many _ (w .0 .taken) (eqb-false _ 48 (w .2 .left))) (λ w. number-one _ (c .before .if1 .left) (w .left)) (c .if2 .came))
-
-shared-slice-read-byte : tie.Need-shared-slice-read-byte Inv-loop μ-loop
-shared-slice-read-byte c = search needs
 
 returns-3 : tie.Need-returns-3 Inv-loop μ-loop
 returns-3 c =
@@ -43,33 +37,15 @@ returns-4 c =
     let t = c .before .before .before in
     sym (t .before .loop .inv .1 ∙ value-high _ _ _ (t .loop-test .taken) (c .before .if4 .left) (c .if5 .taken))
 
-mul-value : tie.Need-mul-value Inv-loop μ-loop
-mul-value c = search needs
-
-cast-value : tie.Need-cast-value Inv-loop μ-loop
-cast-value c = search needs
-
-add-value : tie.Need-add-value Inv-loop μ-loop
-add-value c = search needs
-
 returns-5 : tie.Need-returns-5 Inv-loop μ-loop
 returns-5 c =
     let t = c .before .before .before .before in
     sym (t .before .loop .inv .1 ∙ value-over _ _ _ (t .loop-test .taken) (c .before .before .if4 .left) (c .before .if5 .left) (c .if6 .taken))
 
-add-i : tie.Need-add-i Inv-loop μ-loop
-add-i c = search needs
-
-loop-less : tie.Need-loop-less Inv-loop μ-loop
-loop-less c = search needs
-
 loop-again : tie.Need-loop-again Inv-loop μ-loop
 loop-again c =
     let t = c .before .before .before .before in
     (c .if6 .left, t .before .loop .inv .1 ∙ value-on _ _ _ (t .loop-test .taken) (c .before .before .if4 .left) (c .before .if5 .left) (c .if6 .left))
-
-cast-t17 : tie.Need-cast-t17 Inv-loop μ-loop
-cast-t17 c = search needs
 
 returns-6 : tie.Need-returns-6 Inv-loop μ-loop
 returns-6 c = sym (c .before .loop .inv .1 ∙ value-done _ _ _ (c .loop-test .left))
@@ -81,18 +57,18 @@ number-of-spec =
     Inv-loop
     μ-loop
     returns
-    shared-slice-read-if3
+    (λ c. search needs)
     returns-2
     loop-holds
-    shared-slice-read-byte
+    (λ c. search needs)
     returns-3
     returns-4
-    mul-value
-    cast-value
-    add-value
+    (λ c. search needs)
+    (λ c. search needs)
+    (λ c. search needs)
     returns-5
-    add-i
-    loop-less
+    (λ c. search needs)
+    (λ c. search needs)
     loop-again
-    cast-t17
+    (λ c. search needs)
     returns-6)

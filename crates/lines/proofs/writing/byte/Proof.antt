@@ -11,12 +11,6 @@ use Rattle.lines.proofs.writing.byte.Tie as tie
 stored : (c : tie.Joined1) → c .if1 .room ≡ set (c .before .args .room .now) (c .before .args .at) (c .before .args .b)
 stored c = ⊎-elim (λ w. w .1) (λ w. w .1 ∙ sym (set-out _ _ _ (w .0 .left))) (c .if1 .came)
 
-slice-write-room : tie.Need-slice-write-room
-slice-write-room c = search needs
-
-add-result : tie.Need-add-result
-add-result c = search needs
-
 same-length : tie.Need-same-length
 same-length c = ap length (stored c) ∙ simp length-set
 
@@ -24,4 +18,4 @@ returns : tie.Need-returns
 returns c = record { stored = stored c; past = refl }
 
 pub byte-spec : {M : Type 1} → statement M
-byte-spec = tie.close (tie.spec slice-write-room add-result same-length returns)
+byte-spec = tie.close (tie.spec (λ c. search needs) (λ c. search needs) same-length returns)

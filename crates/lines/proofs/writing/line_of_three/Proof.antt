@@ -6,24 +6,6 @@ use Rattle.lines.proofs.Putting.{put-then}
 use Rattle.lines.proofs.writing.line_of_three.Statement.{statement}
 use Rattle.lines.proofs.writing.line_of_three.Tie as tie
 
-byte-requires : tie.Need-byte-requires
-byte-requires c κs = search needs
-
-field-requires : tie.Need-field-requires
-field-requires c κs = search needs
-
-field-requires-2 : tie.Need-field-requires-2
-field-requires-2 c κs = search needs
-
-field-requires-3 : tie.Need-field-requires-3
-field-requires-3 c κs = search needs
-
-byte-requires-2 : tie.Need-byte-requires-2
-byte-requires-2 c κs = search needs
-
-same-length : tie.Need-same-length
-same-length c = search needs
-
 returns : tie.Need-returns
 unfolding lineText fieldsText
 returns c =
@@ -38,10 +20,10 @@ pub line-of-three-spec : {M : Type 1} → statement M
 line-of-three-spec =
     tie.close
     (tie.spec
-    byte-requires
-    field-requires
-    field-requires-2
-    field-requires-3
-    byte-requires-2
-    same-length
+    (λ c κs. search needs)
+    (λ c κs. search needs)
+    (λ c κs. search needs)
+    (λ c κs. search needs)
+    (λ c κs. search needs)
+    (λ c. search needs)
     returns)

@@ -6,21 +6,6 @@ use Rattle.lines.proofs.Putting.{put-then}
 use Rattle.lines.proofs.writing.line_of_two.Statement.{statement}
 use Rattle.lines.proofs.writing.line_of_two.Tie as tie
 
-byte-requires : tie.Need-byte-requires
-byte-requires c κs = search needs
-
-field-requires : tie.Need-field-requires
-field-requires c κs = search needs
-
-field-requires-2 : tie.Need-field-requires-2
-field-requires-2 c κs = search needs
-
-byte-requires-2 : tie.Need-byte-requires-2
-byte-requires-2 c κs = search needs
-
-same-length : tie.Need-same-length
-same-length c = search needs
-
 returns : tie.Need-returns
 unfolding lineText fieldsText
 returns c =
@@ -33,4 +18,4 @@ returns c =
 pub line-of-two-spec : {M : Type 1} → statement M
 line-of-two-spec =
     tie.close
-    (tie.spec byte-requires field-requires field-requires-2 byte-requires-2 same-length returns)
+    (tie.spec (λ c κs. search needs) (λ c κs. search needs) (λ c κs. search needs) (λ c κs. search needs) (λ c. search needs) returns)

@@ -5,15 +5,6 @@ use Rattle.lines.proofs.LinesLeft.{next-whole, next-cut, next-end}
 use Rattle.lines.proofs.reading.Lines.next.Statement.{statement}
 use Rattle.lines.proofs.reading.Lines.next.Tie as tie
 
-find-requires : tie.Need-find-requires
-find-requires c κs = search needs
-
-add-t7 : tie.Need-add-t7
-add-t7 c = search needs
-
-line-after-requires : tie.Need-line-after-requires
-line-after-requires c κs = search needs
-
 returns : tie.Need-returns
 returns c = rw (c .line-after .ensures) (sym (next-whole _ _ (c .before .before .find .ensures) (c .before .if1 .taken)))
 
@@ -24,4 +15,4 @@ returns-3 : tie.Need-returns-3
 returns-3 c = sym (next-end _ _ (c .if2 .left))
 
 pub next-spec : {M : Type 1} → statement M
-next-spec = tie.close (tie.spec find-requires add-t7 line-after-requires returns returns-2 returns-3)
+next-spec = tie.close (tie.spec (λ c κs. search needs) (λ c. search needs) (λ c κs. search needs) returns returns-2 returns-3)
