@@ -76,11 +76,11 @@ module _ (text : List ℕ) {lent after : Lists} (h : roomy lent ≡ true) {told 
       let c = is-iff .0 e in
       let accepted = reading-job text j (sym (read-in text lent h) ∙ o) in
       record {
-        origins = filled-holds (j .network .origins) (lent .origins) _ (f .origins) (ap (λ c. c .links) (sym c));
-        ends = filled-holds (j .network .ends) (lent .ends) _ (f .ends) (ap (λ c. c .links) (sym c) ∙ sym (accepted .ends-count));
-        sources = filled-holds (j .sources) (lent .sources) _ (f .sources) (ap (λ c. c .packets) (sym c));
-        stops = filled-holds (j .stops) (lent .stops) _ (f .stops) (ap (λ c. c .packets) (sym c) ∙ sym (accepted .stops-count));
-        hops = filled-holds (j .hops) (lent .hops) _ (f .hops) (ap (λ c. c .hops) (sym c));
+        origins = filled-holds (j .network .origins) (lent .origins) _ (ap (λ l. l .origins) (f .lists)) (ap (λ c. c .links) (sym c));
+        ends = filled-holds (j .network .ends) (lent .ends) _ (ap (λ l. l .ends) (f .lists)) (ap (λ c. c .links) (sym c) ∙ sym (accepted .ends-count));
+        sources = filled-holds (j .sources) (lent .sources) _ (ap (λ l. l .sources) (f .lists)) (ap (λ c. c .packets) (sym c));
+        stops = filled-holds (j .stops) (lent .stops) _ (ap (λ l. l .stops) (f .lists)) (ap (λ c. c .packets) (sym c) ∙ sym (accepted .stops-count));
+        hops = filled-holds (j .hops) (lent .hops) _ (ap (λ l. l .hops) (f .lists)) (ap (λ c. c .hops) (sym c));
       }
 
   module _ (room : List ℕ) (places : ℕ) (fits : packetsMost ≤ places) {w : Written} {written-room : List ℕ} where

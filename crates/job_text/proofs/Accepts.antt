@@ -34,11 +34,7 @@ module _ (text : List ℕ) {lent after : Lists} {counts : Counts} (r : ReadAs (r
       read-of text lent j o
       ∙ rw (
         ← e,
-        f .origins,
-        f .ends,
-        f .sources,
-        f .stops,
-        f .hops,
+        f .lists,
         take-filled (j .network .origins) (lent .origins) refl,
         take-filled (j .network .ends) (lent .ends) (sym (a .ends-count)),
         take-filled (j .sources) (lent .sources) refl,

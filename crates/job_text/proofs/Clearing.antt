@@ -16,7 +16,7 @@ use Rattle.job.specs.declared.Job.{Job as Counts}
 use Rattle.job.specs.Told.{numberPlace}
 use Rattle.job_text.specs.declared.Reading.{Reading}
 use Rattle.job_text.specs.declared.Reading.the-variants.{Read, Refused}
-use Rattle.job_text.specs.Told.{Lists, filled, countsOf, ReadAs}
+use Rattle.job_text.specs.Told.{Lists, lists, filled, countsOf, ReadAs}
 use Rattle.job_text.specs.SoFar.{soFar, Room, Within, Took, front, Fronts, keptOf}
 use Rattle.job_text.proofs.Adding.{length-links, length-packets, length-hops}
 use Rattle.job_text.proofs.LineByLine.{SameLengths}
@@ -43,27 +43,24 @@ filled-same xs lent list e = rw e
 counts-so-far : (c : Counts) (l : Lists) → Room l → Within c → countsOf (soFar c l) ≡ c
 counts-so-far c l room w = rw (length-links c l room w, length-packets c l room w, length-hops c l room w)
 
--- the first places that stay are the job's, or none
+-- each list keeps its first places, and the rest is zero
+kept-lists : (c : Counts) {lent mid after : Lists} → SameLengths lent mid → Fronts c mid after → after ≡ lists
+    (filled (take (c .links) (mid .origins)) (lent .origins)) (filled (take (c .links) (mid .ends)) (lent .ends))
+    (filled (take (c .packets) (mid .sources)) (lent .sources)) (filled (take (c .packets) (mid .stops)) (lent .stops))
+    (filled (take (c .hops) (mid .hops)) (lent .hops))
+kept-lists c {lent} {mid} {after} s f = λ i. record {
+  origins = (f .origins ∙ filled-same _ (lent .origins) (mid .origins) (s .origins)) i;
+  ends = (f .ends ∙ filled-same _ (lent .ends) (mid .ends) (s .ends)) i;
+  sources = (f .sources ∙ filled-same _ (lent .sources) (mid .sources) (s .sources)) i;
+  stops = (f .stops ∙ filled-same _ (lent .stops) (mid .stops) (s .stops)) i;
+  hops = (f .hops ∙ filled-same _ (lent .hops) (mid .hops) (s .hops)) i;
+}
+
+-- what stays is the job, or nothing
 pub cleared : {o : Outcome Job} (told : Reading) {lent mid after : Lists} {last : ℕ} → RefusedBy lineNumbers last o → Took o told mid → Room mid → SameLengths lent mid → Fronts (keptOf told) mid after → ReadAs o told lent after
 cleared (Read c) {lent} {mid} h t room s f =
-    rw (← t .read)
-    (record {
-      answer = ap is (sym (counts-so-far c mid room (t .within)));
-      origins = f .origins ∙ filled-same _ _ _ (s .origins);
-      ends = f .ends ∙ filled-same _ _ _ (s .ends);
-      sources = f .sources ∙ filled-same _ _ _ (s .sources);
-      stops = f .stops ∙ filled-same _ _ _ (s .stops);
-      hops = f .hops ∙ filled-same _ _ _ (s .hops);
-    })
+    rw (← t .read) (record { answer = ap is (sym (counts-so-far c mid room (t .within))); lists = kept-lists c s f })
 cleared (Refused r) h t room s f =
     let n = numberPlace r .0 in
     let late : (eqb n 1 || eqb n 10) ≡ false = among-none (λ n. eqb n 1 || eqb n 10) lineNumbers n refl (h .number (sym (t .read))) in
-    rw (← t .read)
-    (record {
-      answer = refl;
-      origins = rw late (f .origins ∙ filled-same _ _ _ (s .origins));
-      ends = rw late (f .ends ∙ filled-same _ _ _ (s .ends));
-      sources = rw late (f .sources ∙ filled-same _ _ _ (s .sources));
-      stops = rw late (f .stops ∙ filled-same _ _ _ (s .stops));
-      hops = rw late (f .hops ∙ filled-same _ _ _ (s .hops));
-    })
+    rw (← t .read) (record { answer = refl; lists = rw late (kept-lists (keptOf (Refused r)) s f) })

@@ -20,11 +20,5 @@ told-reading (Refused refusal) = ap Refused (numbered-refusal refusal)
 pub reading-injective : (r s : Reading) → readingOf r ≡ readingOf s → r ≡ s
 reading-injective r s e = sym (told-reading r) ∙ ap told e ∙ told-reading s
 
-same-lists : (a b : Lists) → a .origins ≡ b .origins → a .ends ≡ b .ends → a .sources ≡ b .sources → a .stops ≡ b .stops → a .hops ≡ b .hops → a ≡ b
-same-lists a b o e s t h = λ i. record { origins = o i; ends = e i; sources = s i; stops = t i; hops = h i }
-
 pub read-once : {outcome : Outcome Job} {r s : Reading} {lent after other : Lists} → ReadAs outcome r lent after → ReadAs outcome s lent other → (r ≡ s) × (after ≡ other)
-read-once p q = (
-  reading-injective _ _ (p .answer ∙ sym (q .answer)),
-  same-lists _ _ (p .origins ∙ sym (q .origins)) (p .ends ∙ sym (q .ends)) (p .sources ∙ sym (q .sources)) (p .stops ∙ sym (q .stops)) (p .hops ∙ sym (q .hops)),
-)
+read-once p q = (reading-injective _ _ (p .answer ∙ sym (q .answer)), p .lists ∙ sym (q .lists))

@@ -48,7 +48,7 @@ module _ (text : List ℕ) (lent : Lists) where
 
 -- 1 and 10 leave the lists as they are
 pub text-too-long : (lent : Lists) → ReadAs (refused 1 0) (Refused TextTooLong) lent lent
-text-too-long lent = record { answer = refl; origins = refl; ends = refl; sources = refl; stops = refl; hops = refl }
+text-too-long lent = record { answer = refl; lists = refl }
 
 pub short-room : (lent : Lists) → ReadAs (refused 10 0) (Refused ShortRoom) lent lent
-short-room lent = record { answer = refl; origins = refl; ends = refl; sources = refl; stops = refl; hops = refl }
+short-room lent = record { answer = refl; lists = refl }

@@ -59,6 +59,15 @@ abbrev pub listAfter : Outcome Job → (Job → List ℕ) → List ℕ → List 
 listAfter (is j) own lent = filled (own j) lent
 listAfter (refused number place) own lent = pick (eqb number 1 || eqb number 10) lent (filled [] lent)
 
+abbrev pub listsAfter : Outcome Job → Lists → Lists
+listsAfter o lent = record {
+  origins = listAfter o (λ j. j .network .origins) (lent .origins);
+  ends = listAfter o (λ j. j .network .ends) (lent .ends);
+  sources = listAfter o (λ j. j .sources) (lent .sources);
+  stops = listAfter o (λ j. j .stops) (lent .stops);
+  hops = listAfter o (λ j. j .hops) (lent .hops);
+}
+
 -- how many nodes, links, packets and hops a job has
 abbrev pub countsOf : Job → Counts
 countsOf j =
@@ -71,8 +80,4 @@ readingOf (Refused refusal) = refusalOf refusal
 -- the answer, and the five lists afterwards
 pub record ReadAs (outcome : Outcome Job) (told : Reading) (lent after : Lists) : Type 0 where
   pub answer : readingOf told ≡ onward outcome (λ j. is (countsOf j))
-  pub origins : after .origins ≡ listAfter outcome (λ j. j .network .origins) (lent .origins)
-  pub ends : after .ends ≡ listAfter outcome (λ j. j .network .ends) (lent .ends)
-  pub sources : after .sources ≡ listAfter outcome (λ j. j .sources) (lent .sources)
-  pub stops : after .stops ≡ listAfter outcome (λ j. j .stops) (lent .stops)
-  pub hops : after .hops ≡ listAfter outcome (λ j. j .hops) (lent .hops)
+  pub lists : after ≡ listsAfter outcome lent
