@@ -1,7 +1,9 @@
 // From a job's text to its plan's text, and to what is printed: reader, planner and writer in a row.
+ghost use mathlib.Core.Path.{_≡_};
 ghost use Prim.Native.Nat.{_≤_};
 ghost use lib.ListN.{length};
 ghost use Rattle.rules.specs.Handed.{given, left};
+ghost use Rattle.rules.specs.Sizes.{planMost};
 ghost use Rattle.rules.specs.Answers.{answered, plans};
 ghost use Rattle.job.specs.Lists.{jobIn};
 ghost use Rattle.plan_text.specs.Told.{WrittenAs};
@@ -83,6 +85,13 @@ pub fn answer(text: &[u8], room: &mut [u8]) -> Written
 
 // Every plan fits in so many bytes.
 pub const ROOM: usize = 19473;
+
+// It is the number that the rules name.
+pub fn plan_most() -> usize
+    ensures { λ r. ⌜ r ≡ planMost ⌝ }
+{
+    ROOM
+}
 
 // What the program `plan` prints for a job's bytes, the plan or the line that tells why there is none, and how many bytes it is.
 pub fn print(text: &[u8], room: &mut [u8; ROOM]) -> usize
