@@ -150,6 +150,6 @@ longLine =
     }
 
 -- an accepted job with the greatest lead and the least
-pub lead-ends-reached : (led longLine (32767 ∷ 0 ∷ []) 0 1 254 ≡ is (pos 33021)) × (led longLine (32767 ∷ 0 ∷ []) 1 0 254 ≡ is (negsuc 33020))
+pub lead-ends-reached : (led longLine (startMost ∷ 0 ∷ []) 0 1 254 ≡ is (pos leadMost)) × (led longLine (startMost ∷ 0 ∷ []) 1 0 254 ≡ is (negℤ (pos leadMost)))
 unfolding longLine linkAt delayOf pathsFrom paths linkVerdict walk packetVerdict linksVerdict packetsVerdict stopsAgree tables entryStep entryAt lead startsVerdict startedVerdict led
 lead-ends-reached = (refl, refl)
