@@ -29,7 +29,7 @@
  *    7  | a link of a path begins elsewhere than the packet has come to     | the line        | the packet
  *    8  | a path comes back to a node                                       | the line        | the packet
  *    9  | the lists do not fit together                                     |                 | 0
- *   10  | the list lent for the answer is too short                         | 0               | 0
+ *   10  | a list lent for the answer is too short                           | 0               | 0
  *   11  | there are more starts than packets, or fewer                      |                 | 0
  *   12  | a start is over ZHEVGULOR_LATEST_START                            |                 | the first such packet
  *   13  | a lead of a packet over itself, of a packet that does not exist,  |                 | 0
@@ -38,19 +38,21 @@
  * If several things are wrong, one is told. In a text: 1; else the first line with trouble, and on it the lowest number, but of 6,
  * 7 and 8 the one at the earliest hop. In lists: 9; else 3 with place 0; else the first link with trouble, 4 before 5; else the
  * first packet with trouble, 3 before 4 before its hops, and these as in a text. Only then 11, then 12, then 13; and 10 after
- * everything else.
+ * everything else, but in zhevgulor_read after 1 and before the lines.
  *
- * LENT LISTS. A list is a pointer and the number of its elements. The list that an answer is written to is lent by the caller. A
- * refusal leaves it as it was. Otherwise the answer is put in its first elements and the rest stays as it was: a plan has no
- * closing zero byte. A lent list may be longer than needed; ZHEVGULOR_PLAN_BYTES bytes, ZHEVGULOR_PACKETS starts and
- * ZHEVGULOR_CLASH numbers are enough for every answer. All other lists are only read, and each has exactly the job's elements: of
- * the starts that zhevgulor_starts wrote, as many are handed on as there are packets.
+ * LENT LISTS. A list is a pointer and the number of its elements. The lists that an answer is written to are lent by the caller.
+ * zhevgulor_read has five of them, and its comment says what becomes of them. All other functions have one at most: a refusal
+ * leaves it as it was; otherwise the answer is put in its first elements and the rest stays as it was: a plan has no closing zero
+ * byte. A lent list may be longer than needed; ZHEVGULOR_PLAN_BYTES bytes, ZHEVGULOR_PACKETS starts and ZHEVGULOR_CLASH numbers are
+ * enough for every answer. All other lists are only read, and each has exactly the job's elements: of the starts that
+ * zhevgulor_starts wrote, as many are handed on as there are packets, and of the lists that zhevgulor_read wrote, as many elements
+ * as it counted.
  *
  * NUMBERS. Nodes, links, packets and starts are 16 bits wide. C cuts a wider number that is handed over to 16 bits before the
  * function sees it, and gcc says so with -Wconversion.
  *
  * POINTERS. Beside the number 0 a pointer may be null, and is not followed in any case. Every other pointer must be aligned for its
- * type and lead to as many elements as are said. The lent list must not overlap a list that is read. Lists that are read may
+ * type and lead to as many elements as are said. A lent list must not overlap any other list of the call. Lists that are read may
  * overlap each other. What stands in them is free: no text and no value in a list does any harm.
  *
  * THREADS. Nothing is kept from one call to the next: the functions have no variables outside the call and use no heap, no file,
@@ -58,7 +60,7 @@
  * inputs, as long as nobody writes to the lists of a call while it runs.
  *
  * STACK. All working space is on the caller's stack. Measured over the calls of the tests, with the frame of the calling function,
- * zhevgulor_plan took up to 64,440 bytes, zhevgulor_plan_text up to 9,128 and the others less than 600. tests/run measures anew
+ * zhevgulor_plan took up to 64,456 bytes, zhevgulor_plan_text up to 9,208 and the others less than 700. tests/run measures anew
  * and fails if a call takes more than ZHEVGULOR_STACK_BYTES, which leaves room above that.
  */
 #ifndef ZHEVGULOR_H
@@ -81,6 +83,10 @@ extern "C" {
 
 #define ZHEVGULOR_LATEST_START 32767 /* the latest start that is taken from outside */
 
+/* What no answer exceeds. */
+#define ZHEVGULOR_PLANNED_START 16384 /* a start that is planned */
+#define ZHEVGULOR_LEAD          33021 /* a lead, on either side of 0 */
+
 /* What is enough for every call. */
 #define ZHEVGULOR_PLAN_BYTES   19473 /* bytes for a plan */
 #define ZHEVGULOR_CLASH        4     /* numbers for a clash */
@@ -97,6 +103,15 @@ typedef struct {
     uint32_t place; /* 0 unless refused */
     int32_t lead;   /* 0 if refused */
 } zhevgulor_lead_answer;
+
+typedef struct {
+    uint32_t refusal;
+    uint32_t value; /* 0 unless refused */
+    uint32_t nodes; /* this and all below: 0 if refused */
+    uint32_t links;
+    uint32_t packets;
+    uint32_t hops;
+} zhevgulor_read_answer;
 
 /* From a job's text to its plan's text. On success `value` is the number of bytes written to `room`. It refuses by 1 to 8, or by 10.
  *
@@ -123,10 +138,38 @@ zhevgulor_answer zhevgulor_plan(const uint8_t *job, size_t job_bytes, uint8_t *r
     const uint16_t *stops, size_t stops_count, \
     const uint16_t *hops, size_t hops_count
 
+/* From a job's text to its lists. On success `value` is 0, the answer has the job's counts, and the lists stand in the first
+ * elements of those that are lent:
+ *     origins, ends      as many as `links`
+ *     sources, stops     as many as `packets`
+ *     hops               as many as `hops`
+ * All elements behind them are 0, to the end of each lent list.
+ *
+ * It refuses by 1; else by 10 if a lent list is shorter than the greatest job needs it, whatever this job needs: ZHEVGULOR_LINKS
+ * elements for origins and for ends, ZHEVGULOR_PACKETS for sources and for stops, ZHEVGULOR_HOPS for hops; else by 2 to 8, as
+ * zhevgulor_plan does. Refused by 1 or 10, it leaves the lists as they were. Refused by any other number, it has set every element
+ * of every list to 0.
+ *
+ * What was read is always a job, and can be handed to all functions below:
+ *
+ *     static uint16_t origins[ZHEVGULOR_LINKS], ends[ZHEVGULOR_LINKS], sources[ZHEVGULOR_PACKETS], stops[ZHEVGULOR_PACKETS],
+ *         hops[ZHEVGULOR_HOPS], starts[ZHEVGULOR_PACKETS];
+ *     zhevgulor_read_answer j = zhevgulor_read(job, job_bytes, origins, ZHEVGULOR_LINKS, ends, ZHEVGULOR_LINKS,
+ *         sources, ZHEVGULOR_PACKETS, stops, ZHEVGULOR_PACKETS, hops, ZHEVGULOR_HOPS);
+ *     if (j.refusal == 0)
+ *         answer = zhevgulor_starts((uint16_t)j.nodes, origins, j.links, ends, j.links, sources, j.packets, stops, j.packets,
+ *             hops, j.hops, starts, ZHEVGULOR_PACKETS);
+ */
+zhevgulor_read_answer zhevgulor_read(const uint8_t *job, size_t job_bytes,
+                                     uint16_t *origins, size_t origins_count, uint16_t *ends, size_t ends_count,
+                                     uint16_t *sources, size_t sources_count, uint16_t *stops, size_t stops_count,
+                                     uint16_t *hops, size_t hops_count);
+
 /* Are the lists a job? On success `value` is 0. Every function below asks this first and refuses as this one does. */
 zhevgulor_answer zhevgulor_tables(ZHEVGULOR_LISTS);
 
-/* The planned starts. On success `value` is the number of packets, and starts[k] is the start of packet k, at most 16384. */
+/* The planned starts. On success `value` is the number of packets, and starts[k] is the start of packet k, at most
+ * ZHEVGULOR_PLANNED_START. */
 zhevgulor_answer zhevgulor_starts(ZHEVGULOR_LISTS, uint16_t *starts, size_t starts_count);
 
 /* Do given starts keep all packets apart? On success `value` is
@@ -138,7 +181,7 @@ zhevgulor_answer zhevgulor_check(ZHEVGULOR_LISTS, const uint16_t *starts, size_t
                                  uint32_t *clash, size_t clash_count);
 
 /* By how many steps packet a enters the link later than packet b, under given starts: on success `lead` is negative if a is ahead,
- * 0 exactly if the two enter the link in the same step, and from -33021 to 33021. */
+ * 0 exactly if the two enter the link in the same step, and from -ZHEVGULOR_LEAD to ZHEVGULOR_LEAD. */
 zhevgulor_lead_answer zhevgulor_lead(ZHEVGULOR_LISTS, const uint16_t *starts, size_t starts_count,
                                      uint16_t a, uint16_t b, uint16_t link);
 

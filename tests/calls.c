@@ -10,17 +10,35 @@
 #include <string.h>
 #include <sys/mman.h>
 
-const char *const function_name[FUNCTIONS] = { "plan", "tables", "starts", "check", "lead", "plan_text" };
+const char *const function_name[FUNCTIONS] = { "plan", "read", "tables", "starts", "check", "lead", "plan_text" };
 
 static const size_t place_bytes[FUNCTIONS] = {
-    [PLAN] = 1, [STARTS] = sizeof(uint16_t), [CHECK] = sizeof(uint32_t), [PLAN_TEXT] = 1
+    [PLAN] = 1, [READ] = sizeof(uint16_t), [STARTS] = sizeof(uint16_t), [CHECK] = sizeof(uint32_t), [PLAN_TEXT] = 1
 };
 
-size_t lent_bytes(const struct call *call) { return call->lent * place_bytes[call->function]; }
+static int lent_lists(const struct call *call) { return call->function == READ ? JOB_LISTS : 1; }
+static size_t list_bytes(const struct call *call, int i) { return call->lent[i] * place_bytes[call->function]; }
+
+size_t lent_bytes(const struct call *call)
+{
+    size_t sum = 0;
+    for (int i = 0; i < lent_lists(call); i++)
+        sum += list_bytes(call, i);
+    return sum;
+}
+
+void part_lent(const struct call *call, uint8_t *bytes, void **lent)
+{
+    for (int i = 0; i < lent_lists(call); i++) {
+        lent[i] = bytes;
+        bytes += list_bytes(call, i);
+    }
+}
+
 const uint16_t *lent_starts(const struct outcome *outcome) { return (const uint16_t *)(const void *)outcome->lent; }
 const uint32_t *lent_clash(const struct outcome *outcome) { return (const uint32_t *)(const void *)outcome->lent; }
 
-/* What stands in the lent list before the call. */
+/* What stands in the lent lists before the call. */
 static uint8_t pattern[LENT_BYTES];
 
 static void make_pattern(void)
@@ -33,48 +51,56 @@ static void make_pattern(void)
 
 void ask_simple(const struct call *c, struct outcome *outcome)
 {
-    void *lent = outcome->lent;
-    memcpy(lent, pattern, lent_bytes(c));
+    void *lent[JOB_LISTS];
+    part_lent(c, outcome->lent, lent);
+    memcpy(outcome->lent, pattern, lent_bytes(c));
     outcome->trouble = NULL;
     switch (c->function) {
-    case PLAN: outcome->answer = simple_plan(c->text, c->text_bytes, lent, c->lent); break;
+    case PLAN: outcome->answer = simple_plan(c->text, c->text_bytes, lent[0], c->lent[0]); break;
+    case READ: outcome->answer = simple_read(c->text, c->text_bytes, (uint16_t *const *)lent, c->lent); break;
     case TABLES: outcome->answer = simple_tables(&c->lists); break;
-    case STARTS: outcome->answer = simple_starts(&c->lists, lent, c->lent); break;
-    case CHECK: outcome->answer = simple_check(&c->lists, c->starts, c->starts_count, lent, c->lent); break;
+    case STARTS: outcome->answer = simple_starts(&c->lists, lent[0], c->lent[0]); break;
+    case CHECK: outcome->answer = simple_check(&c->lists, c->starts, c->starts_count, lent[0], c->lent[0]); break;
     case LEAD: outcome->answer = simple_lead(&c->lists, c->starts, c->starts_count, c->a, c->b, c->link); break;
-    case PLAN_TEXT: outcome->answer = simple_plan_text(&c->lists, c->starts, c->starts_count, lent, c->lent); break;
+    case PLAN_TEXT: outcome->answer = simple_plan_text(&c->lists, c->starts, c->starts_count, lent[0], c->lent[0]); break;
     case FUNCTIONS: abort();
     }
 }
 
 /* ---- The planner ---- */
 
-struct answer call_planner(const struct call *c, void *lent)
+struct answer call_planner(const struct call *c, void *const *lent)
 {
     const struct lists *l = &c->lists;
 #define LISTS l->nodes, l->origins, l->origins_count, l->ends, l->ends_count, l->sources, l->sources_count, \
               l->stops, l->stops_count, l->hops, l->hops_count
     zhevgulor_answer answer = { 0, 0 };
     zhevgulor_lead_answer lead;
+    zhevgulor_read_answer read;
     switch (c->function) {
-    case PLAN: answer = zhevgulor_plan(c->text, c->text_bytes, lent, c->lent); break;
+    case PLAN: answer = zhevgulor_plan(c->text, c->text_bytes, lent[0], c->lent[0]); break;
+    case READ:
+        read = zhevgulor_read(c->text, c->text_bytes, lent[0], c->lent[0], lent[1], c->lent[1], lent[2], c->lent[2],
+                              lent[3], c->lent[3], lent[4], c->lent[4]);
+        return (struct answer){ read.refusal, read.value, 0, read.nodes, read.links, read.packets, read.hops };
     case TABLES: answer = zhevgulor_tables(LISTS); break;
-    case STARTS: answer = zhevgulor_starts(LISTS, lent, c->lent); break;
-    case CHECK: answer = zhevgulor_check(LISTS, c->starts, c->starts_count, lent, c->lent); break;
+    case STARTS: answer = zhevgulor_starts(LISTS, lent[0], c->lent[0]); break;
+    case CHECK: answer = zhevgulor_check(LISTS, c->starts, c->starts_count, lent[0], c->lent[0]); break;
     case LEAD:
         lead = zhevgulor_lead(LISTS, c->starts, c->starts_count, (uint16_t)c->a, (uint16_t)c->b, (uint16_t)c->link);
-        return (struct answer){ lead.refusal, lead.place, lead.lead };
-    case PLAN_TEXT: answer = zhevgulor_plan_text(LISTS, c->starts, c->starts_count, lent, c->lent); break;
+        return (struct answer){ lead.refusal, lead.place, .lead = lead.lead };
+    case PLAN_TEXT: answer = zhevgulor_plan_text(LISTS, c->starts, c->starts_count, lent[0], c->lent[0]); break;
     case FUNCTIONS: abort();
     }
-    return (struct answer){ answer.refusal, answer.value, 0 };
+    return (struct answer){ answer.refusal, .value = answer.value };
 #undef LISTS
 }
 
 /* Every list is handed over in a field of its own, between two stretches of memory that nobody may touch: flush with the one
  * behind it, flush with the one before it, or in the middle. What is free beside it holds guard bytes. */
 enum { FIELD_BYTES = 1 << 18, FENCE_BYTES = 1 << 16, GUARD_BYTES = 64, GUARD = 0xA5 };
-enum { TEXT_FIELD, ORIGINS_FIELD, ENDS_FIELD, SOURCES_FIELD, STOPS_FIELD, HOPS_FIELD, STARTS_FIELD, LENT_FIELD, FIELDS };
+enum { TEXT_FIELD, ORIGINS_FIELD, ENDS_FIELD, SOURCES_FIELD, STOPS_FIELD, HOPS_FIELD, STARTS_FIELD, LENT_FIELD,
+       FIELDS = LENT_FIELD + JOB_LISTS };
 
 static struct field {
     uint8_t *begin, *end;   /* of the field */
@@ -132,18 +158,20 @@ static const uint16_t *lay_list(int i, const uint16_t *list, size_t count) { ret
 
 static int guards_stand(const struct field *f)
 {
-    for (const uint8_t *byte = first_guard(f); byte < guards_end(f); byte++)
-        if ((byte < f->list || byte >= f->list + f->bytes) && *byte != GUARD)
-            return 0;
-    return 1;
+    static uint8_t guards[GUARD_BYTES];
+    if (guards[0] != GUARD)
+        memset(guards, GUARD, sizeof guards);
+    const uint8_t *first = first_guard(f), *behind = f->list + f->bytes;
+    return memcmp(first, guards, (size_t)(f->list - first)) == 0
+        && memcmp(behind, guards, (size_t)(guards_end(f) - behind)) == 0;
 }
 
-static const char *trouble_in_fields(void)
+static const char *trouble_in_fields(const struct call *c)
 {
-    for (int i = 0; i < FIELDS; i++) {
+    for (int i = 0; i < LENT_FIELD + lent_lists(c); i++) {
         if (!guards_stand(&field[i]))
-            return i == LENT_FIELD ? "bytes beside the lent list are changed" : "bytes beside an input are changed";
-        if (i != LENT_FIELD && field[i].bytes > 0 && memcmp(field[i].list, field[i].original, field[i].bytes) != 0)
+            return i >= LENT_FIELD ? "bytes beside a lent list are changed" : "bytes beside an input are changed";
+        if (i < LENT_FIELD && field[i].bytes > 0 && memcmp(field[i].list, field[i].original, field[i].bytes) != 0)
             return "an input is changed";
     }
     return NULL;
@@ -193,14 +221,19 @@ void ask_planner(const struct call *c, struct outcome *outcome)
     laid.lists.stops = lay_list(STOPS_FIELD, c->lists.stops, c->lists.stops_count);
     laid.lists.hops = lay_list(HOPS_FIELD, c->lists.hops, c->lists.hops_count);
     laid.starts = lay_list(STARTS_FIELD, c->starts, c->starts_count);
-    void *lent = lay(LENT_FIELD, pattern, lent_bytes(c));
-    outcome->answer = (struct answer){ 0, 0, 0 };
+    void *lent[JOB_LISTS], *part[JOB_LISTS];
+    part_lent(c, pattern, part);
+    for (int i = 0; i < lent_lists(c); i++)
+        lent[i] = lay(LENT_FIELD + i, part[i], list_bytes(c, i));
+    outcome->answer = (struct answer){ 0 };
     outcome->trouble = "the call touches memory that is not its own";
     if (sigsetjmp(give_up, 0) == 0) {
         calling = 1;
         outcome->answer = call_planner(&laid, lent);
-        outcome->trouble = trouble_in_fields();
+        outcome->trouble = trouble_in_fields(c);
     }
     calling = 0;
-    memcpy(outcome->lent, field[LENT_FIELD].list, lent_bytes(c));
+    part_lent(c, outcome->lent, part);
+    for (int i = 0; i < lent_lists(c); i++)
+        memcpy(part[i], field[LENT_FIELD + i].list, list_bytes(c, i));
 }

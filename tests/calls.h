@@ -15,11 +15,11 @@ struct call {
     const uint16_t *starts; /* given */
     size_t starts_count;
     int a, b, link;
-    size_t lent;            /* places lent for the answer */
+    size_t lent[JOB_LISTS]; /* places lent for the answer: the first list's, and in READ those of all five */
 };
 
-/* What came of a call: the answer, and the lent list afterwards. */
-enum { LENT_BYTES = 24000 };
+/* What came of a call: the answer, and the lent lists afterwards, one behind the other. */
+enum { LENT_BYTES = 60000 };
 struct outcome {
     struct answer answer;
     _Alignas(uint32_t) uint8_t lent[LENT_BYTES];
@@ -35,6 +35,9 @@ void ask_planner(const struct call *call, struct outcome *outcome);
 void ask_simple(const struct call *call, struct outcome *outcome);
 
 /* The bare call, with the lists where they are. */
-struct answer call_planner(const struct call *call, void *lent);
+struct answer call_planner(const struct call *call, void *const *lent);
+
+/* Where each lent list lies in the bytes of them all. */
+void part_lent(const struct call *call, uint8_t *bytes, void **lent);
 
 #endif

@@ -7,6 +7,7 @@
 #include <string.h>
 
 long passed, failed;
+const char *part = "";
 char label[200];
 struct outcome planner;
 long given[FUNCTIONS][REFUSALS];
@@ -38,13 +39,13 @@ void expect(int holds, const char *format, ...)
     va_end(words);
 }
 
-int same(const struct call *call, const struct outcome *outcome, const struct answer *answer, const uint8_t *lent)
+/* An answer is seven numbers and nothing between them. */
+static int same_answer(const struct answer *one, const struct answer *other) { return memcmp(one, other, sizeof *one) == 0; }
+
+static int same(const struct call *call, const struct outcome *one, const struct outcome *other)
 {
-    return outcome->trouble == NULL
-        && outcome->answer.refusal == answer->refusal
-        && outcome->answer.value == answer->value
-        && outcome->answer.lead == answer->lead
-        && memcmp(outcome->lent, lent, lent_bytes(call)) == 0;
+    return one->trouble == NULL && same_answer(&one->answer, &other->answer)
+        && memcmp(one->lent, other->lent, lent_bytes(call)) == 0;
 }
 
 /* ---- Cases that fail are saved ---- */
@@ -76,8 +77,9 @@ static void print_list(FILE *file, const char *name, const uint16_t *list, size_
 
 static void print_call(FILE *file, const struct call *c)
 {
-    fprintf(file, "%s: %s\nlent: %zu\n", function_name[c->function], label, c->lent);
-    if (c->function == PLAN) {
+    fprintf(file, "%s: %s\nlent: %zu %zu %zu %zu %zu\n", function_name[c->function], label,
+            c->lent[0], c->lent[1], c->lent[2], c->lent[3], c->lent[4]);
+    if (c->function == PLAN || c->function == READ) {
         print_bytes(file, "job", c->text, c->text_bytes);
         return;
     }
@@ -93,18 +95,21 @@ static void print_call(FILE *file, const struct call *c)
 
 static void print_answer(FILE *file, const char *name, const struct outcome *o)
 {
-    fprintf(file, "%s: refusal %u, value or place %u, lead %d%s%s\n", name, o->answer.refusal, o->answer.value, o->answer.lead,
-            o->trouble ? "; " : "", o->trouble ? o->trouble : "");
+    const struct answer *a = &o->answer;
+    fprintf(file, "%s: refusal %u, value or place %u, lead %d, nodes %u, links %u, packets %u, hops %u%s%s\n", name, a->refusal,
+            a->value, a->lead, a->nodes, a->links, a->packets, a->hops, o->trouble ? "; " : "", o->trouble ? o->trouble : "");
 }
 
 static void print_lent(FILE *file, const struct call *c, const struct outcome *o)
 {
     static const char name[] = "  lent list afterwards";
-    if (c->function == STARTS) {
-        print_list(file, name, lent_starts(o), c->lent);
+    if (c->function == STARTS || c->function == READ) {
+        const uint16_t *list = lent_starts(o);
+        for (int i = 0; i < JOB_LISTS && (i == 0 || c->function == READ); list += c->lent[i++])
+            print_list(file, name, list, c->lent[i]);
     } else if (c->function == CHECK) {
-        fprintf(file, "%s (%zu):", name, c->lent);
-        for (size_t i = 0; i < c->lent; i++)
+        fprintf(file, "%s (%zu):", name, c->lent[0]);
+        for (size_t i = 0; i < c->lent[0]; i++)
             fprintf(file, " %u", lent_clash(o)[i]);
         fprintf(file, "\n");
     } else {
@@ -124,7 +129,7 @@ static void save(const struct call *c, const struct outcome *simple)
             printf("FAILED: more cases of %s, which are counted but not saved\n", function);
         return;
     }
-    sprintf(name, "target/tests/failed-%s-%d.txt", function, number);
+    sprintf(name, "target/tests/failed-%s%s-%d.txt", part, function, number);
     printf("FAILED: %s: %s: saved as %s\n", function, label, name);
     print_answer(stdout, "  planner", &planner);
     print_answer(stdout, "  simple.c", simple);
@@ -140,8 +145,8 @@ static void save(const struct call *c, const struct outcome *simple)
     print_answer(file, "simple.c", simple);
     print_lent(file, c, simple);
     fclose(file);
-    sprintf(name, "target/tests/failed-%s-%d.job", function, number);
-    if (c->function == PLAN && (file = fopen(name, "w")) != NULL) { /* to be tried by hand */
+    sprintf(name, "target/tests/failed-%s%s-%d.job", part, function, number);
+    if (c->text != NULL && (file = fopen(name, "w")) != NULL) { /* to be tried by hand */
         fwrite(c->text, 1, c->text_bytes, file);
         fclose(file);
     }
@@ -161,13 +166,33 @@ static void *copy(const void *from, size_t bytes)
 
 static void copy_list(const uint16_t **list, size_t count) { *list = copy(*list, count * sizeof **list); }
 
+/* Equal bytes have equal ones, and others hardly ever. The lists of a reader are too long to be kept themselves. */
+static uint64_t fingerprint(const struct call *c, const struct outcome *outcome)
+{
+    uint64_t print = 0, word;
+    size_t at = 0, bytes = lent_bytes(c);
+    for (; at + sizeof word <= bytes; at += sizeof word) {
+        memcpy(&word, outcome->lent + at, sizeof word);
+        word ^= print;
+        print = (word << 1 | word >> 63) * 0x9E3779B97F4A7C15;
+    }
+    for (; at < bytes; at++)
+        print = (print ^ outcome->lent[at]) * 0x9E3779B97F4A7C15;
+    return print;
+}
+
+int same_as_kept(const struct kept *k, const struct outcome *outcome)
+{
+    return outcome->trouble == NULL && same_answer(&outcome->answer, &k->answer) && fingerprint(&k->call, outcome) == k->lent;
+}
+
 static void keep(const struct call *c)
 {
     static size_t room;
     if (kept_count == room && (kept = realloc(kept, (room = 2 * room + 1000) * sizeof kept[0])) == NULL)
         abort();
     struct kept *k = &kept[kept_count++];
-    *k = (struct kept){ *c, planner.answer, copy(planner.lent, lent_bytes(c)), copy(label, strlen(label) + 1) };
+    *k = (struct kept){ *c, planner.answer, fingerprint(c, &planner), copy(label, strlen(label) + 1) };
     k->call.text = copy(c->text, c->text_bytes);
     copy_list(&k->call.lists.origins, c->lists.origins_count);
     copy_list(&k->call.lists.ends, c->lists.ends_count);
@@ -184,7 +209,7 @@ static void run(const struct call *c)
     static struct outcome simple;
     ask_planner(c, &planner);
     ask_simple(c, &simple);
-    if (!same(c, &planner, &simple.answer, simple.lent)) {
+    if (!same(c, &planner, &simple)) {
         failed++;
         save(c, &simple);
         return;
@@ -198,20 +223,28 @@ static void run(const struct call *c)
 
 void run_text(const struct text *text, size_t room)
 {
-    run(&(struct call){ .function = PLAN, .text = text->byte, .text_bytes = text->bytes, .lent = room });
+    run(&(struct call){ .function = PLAN, .text = text->byte, .text_bytes = text->bytes, .lent = { room } });
+}
+
+void run_read(const struct text *text, int list, int more)
+{
+    struct call c = { .function = READ, .text = text->byte, .text_bytes = text->bytes };
+    for (int i = 0; i < JOB_LISTS; i++)
+        c.lent[i] = list_size[i] + (size_t)(list < 0 || list == i ? more : 0);
+    run(&c);
 }
 
 void run_tables(const struct tables *tables) { run(&(struct call){ .function = TABLES, .lists = lists_of(tables) }); }
 
 void run_starts(const struct tables *tables, size_t places)
 {
-    run(&(struct call){ .function = STARTS, .lists = lists_of(tables), .lent = places });
+    run(&(struct call){ .function = STARTS, .lists = lists_of(tables), .lent = { places } });
 }
 
 void run_check(const struct tables *tables, const struct list *starts, size_t places)
 {
     run(&(struct call){ .function = CHECK, .lists = lists_of(tables), .starts = starts->value, .starts_count = starts->count,
-                        .lent = places });
+                        .lent = { places } });
 }
 
 void run_lead(const struct tables *tables, const struct list *starts, int a, int b, int link)
@@ -223,7 +256,7 @@ void run_lead(const struct tables *tables, const struct list *starts, int a, int
 void run_plan_text(const struct tables *tables, const struct list *starts, size_t room)
 {
     run(&(struct call){ .function = PLAN_TEXT, .lists = lists_of(tables), .starts = starts->value, .starts_count = starts->count,
-                        .lent = room });
+                        .lent = { room } });
 }
 
 void run_lists(const struct tables *tables, const struct list *starts, struct rooms rooms)

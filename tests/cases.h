@@ -7,6 +7,9 @@
 
 extern long passed, failed;
 
+/* What the files of failed cases have in their names, so that two processes do not write to one. */
+extern const char *part;
+
 /* Where the cases that follow come from. */
 extern char label[200];
 void name_cases(const char *format, ...);
@@ -17,6 +20,7 @@ void expect(int holds, const char *format, ...);
 /* The cases. Afterwards `planner` is what the planner did. */
 extern struct outcome planner;
 void run_text(const struct text *text, size_t room);
+void run_read(const struct text *text, int list, int more); /* every list has its size; one, -1 for all, so many places more */
 void run_tables(const struct tables *tables);
 void run_starts(const struct tables *tables, size_t places);
 void run_check(const struct tables *tables, const struct list *starts, size_t places);
@@ -36,12 +40,12 @@ extern long clashes;
 struct kept {
     struct call call;
     struct answer answer;
-    uint8_t *lent;
+    uint64_t lent; /* the fingerprint of the lent lists */
     char *label;
 };
 extern int keeping;
 extern struct kept *kept;
 extern size_t kept_count;
-int same(const struct call *call, const struct outcome *outcome, const struct answer *answer, const uint8_t *lent);
+int same_as_kept(const struct kept *kept, const struct outcome *outcome);
 
 #endif

@@ -52,6 +52,13 @@ static void run_tables_everywhere(void)
     run_lists(&tables, &starts, (struct rooms){ 1025, 4, ROOM });
 }
 
+/* The text, planned and read. */
+static void run_text_everywhere(size_t room)
+{
+    run_text(&text, room);
+    run_read(&text, -1, 0);
+}
+
 /* ---- Sizes ---- */
 
 /* Nodes, and numbers of nodes around their count. */
@@ -63,10 +70,10 @@ static void limit_nodes(void)
             name_cases("%d nodes, node %d", count[i], node);
             clear_text(&text);
             add(&text, "N\t%d\nP\t%d\n", count[i], node);
-            run_text(&text, SMALL_ROOM);
+            run_text_everywhere(SMALL_ROOM);
             clear_text(&text);
             add(&text, "N\t%d\nL\t0\t%d\nL\t%d\t0\n", count[i], node, node);
-            run_text(&text, SMALL_ROOM);
+            run_text_everywhere(SMALL_ROOM);
             for (int turned = 0; turned < 2; turned++) {
                 clear_tables(&tables);
                 tables.nodes = (uint16_t)count[i];
@@ -93,7 +100,7 @@ static void limit_links(void)
                 add(&text, "L\t0\t1\n");
             add(&text, "%s", last_line[i]);
             name_cases("%d links and line %zu", links, i);
-            run_text(&text, ROOM);
+            run_text_everywhere(ROOM);
         }
     static const int count[] = { 4095, 4096, 4097, 65535, 65536, 65537 };
     for (size_t i = 0; i < COUNT(count); i++)
@@ -123,7 +130,7 @@ static void limit_packets(void)
                 add(&text, "P\t%d\n", k % 2);
             add(&text, "%s", last_line[i]);
             name_cases("%d packets and line %zu", packets, i);
-            run_text(&text, ROOM);
+            run_text_everywhere(ROOM);
         }
     static const int count[] = { 1023, 1024, 1025, 65535, 65536, 65537 };
     for (size_t i = 0; i < COUNT(count); i++)
@@ -160,7 +167,7 @@ static void limit_path(void)
                 add_path(source, 0, hops);
                 end_last_line(end[i]);
                 name_cases("path of %d hops from %d, end %zu", hops, source, i);
-                run_text(&text, ROOM);
+                run_text_everywhere(ROOM);
             }
     for (int hops = 254; hops <= 257; hops++)
         for (int mistake = 0; mistake < 6; mistake++) {
@@ -187,7 +194,7 @@ static void limit_hops(void)
             add_path(source, 0, last_hops);
             end_last_line(i < COUNT(end) ? end[i] : "\n");
             name_cases("%d hops in all, end %zu, source %d", 16300 + last_hops, i, source);
-            run_text(&text, ROOM);
+            run_text_everywhere(ROOM);
         }
     for (int last_hops = 63; last_hops <= 66; last_hops++)
         for (int mistake = 0; mistake < 5; mistake++) {
@@ -254,13 +261,20 @@ static void limit_bytes(void)
             case 3: text.byte[2] = '0'; break;
             }
             name_cases("text of %zu bytes, mistake %d", bytes, mistake);
-            run_text(&text, mistake == 4 ? 10 : ROOM);
+            run_text_everywhere(mistake == 4 ? 10 : ROOM);
             if (mistake == 0)
-                expect(planner.answer.refusal == (bytes > 65535), "%s", label);
+                expect(planner.answer.refusal == (bytes > 65535), "%s, read", label);
         }
+    for (size_t bytes = 65535; bytes <= 65536; bytes++)
+        for (int list = 0; list < JOB_LISTS; list++)
+            for (int more = -1; more <= 1; more++) {
+                text_of_length(bytes);
+                name_cases("text of %zu bytes, list %d with %d places more", bytes, list, more);
+                run_read(&text, list, more);
+            }
     text_of_length(190000);
     name_cases("190,000 bytes");
-    run_text(&text, ROOM);
+    run_text_everywhere(ROOM);
     run_text(&text, 0);
 
     static const char *const again[] = { "\n", "\t", "0", "9", "P\t0\n", "N\t1\n", "\t0", "N", "\r\n", "\xFF", " " };
@@ -269,11 +283,10 @@ static void limit_bytes(void)
             for (size_t bytes = 65535; bytes <= 65536; bytes++) {
                 clear_text(&text);
                 add(&text, "%s", head ? "N\t1\nP\t0" : "");
-                while (text.bytes < bytes)
-                    add(&text, "%s", again[i]);
-                text.bytes = bytes;
+                for (const char *byte = again[i]; text.bytes < bytes; byte = byte[1] ? byte + 1 : again[i])
+                    text.byte[text.bytes++] = (uint8_t)*byte;
                 name_cases("%zu bytes, all alike: %zu after head %d", bytes, i, head);
-                run_text(&text, ROOM);
+                run_text_everywhere(ROOM);
             }
 }
 
@@ -400,6 +413,39 @@ void rooms(void)
     long_plans();
 }
 
+/* ---- The reader's lists ---- */
+
+/* Of their sizes, six times: so often, each lies at every place of its field. Then longer, and each in turn too short. */
+static void reader_lists_of(const char *name)
+{
+    for (int again = 0; again < 6; again++) {
+        name_cases("lists of %s", name);
+        run_read(&text, -1, 0);
+    }
+    for (int list = -1; list < JOB_LISTS; list++) {
+        static const int more[] = { -1024, -1023, -2, -1, 1, 2, 300 };
+        for (size_t i = 0; i < COUNT(more); i++) {
+            name_cases("lists of %s, list %d with %d places more", name, list, more[i]);
+            run_read(&text, list, more[i]);
+        }
+    }
+}
+
+void reader_lists(void)
+{
+    static const char *const shown[] = {
+        session_a, "N 1\n", "N 1\nP 0\nP 0\n", "N 2\nL 0 1\n", "N 3\nL 2 1\nL 1 2\nP 2 0\nP 1 1\nP 2\n",
+        "", "N 2\nL 0 1\nP 0 0\n\n", "N 0\n", "N 2\nL 0 1\nL 2 0\n", "N 2\nL 0 1\nL 1 1\n", "N 2\nL 0 1\nP 0 0\nP 0 1\n",
+        "N 2\nL 0 1\nP 0 0\nP 1 0\n", "N 2\nL 0 1\nL 1 0\nP 0 0\nP 0 0 1\n"
+    };
+    for (size_t i = 0; i < COUNT(shown); i++) {
+        char name[20];
+        sprintf(name, "text %zu", i);
+        show_text(&text, shown[i]);
+        reader_lists_of(name);
+    }
+}
+
 /* ---- Jobs as large as can be. They take long, so each is asked once and none is kept. ---- */
 
 void full_jobs(void)
@@ -410,16 +456,16 @@ void full_jobs(void)
             add_path(0, 0, 16);
         add_path(0, 0, last_hops);
         name_cases("1,024 packets, %d hops in all", 1023 * 16 + last_hops);
-        run_text(&text, ROOM);
-        expect(planner.answer.refusal == (last_hops == 16 ? 0 : 3), "%s", label);
+        run_text_everywhere(ROOM);
+        expect(planner.answer.refusal == (last_hops == 16 ? 0 : 3), "%s, read", label);
     }
     for (int packets = 1024; packets <= 1025; packets++) {
         line_text(2);
         for (int k = 0; k < packets; k++)
             add_path(0, 0, 1);
         name_cases("%d packets on one link", packets);
-        run_text(&text, ROOM);
-        expect(planner.answer.refusal == (packets == 1024 ? 0 : 3), "%s", label);
+        run_text_everywhere(ROOM);
+        expect(planner.answer.refusal == (packets == 1024 ? 0 : 3), "%s, read", label);
     }
     line_network(&tables, 256);
     for (int k = 0; k < 64; k++)

@@ -1,6 +1,7 @@
-/* promises.c: what zhevgulor.h says of threads and of the stack. What it says of variables is looked up in the archive, by
- * tests/run. */
+/* promises.c: the numbers of zhevgulor.h, and what it says of lists that were read, of threads and of the stack. What it says of
+ * variables is looked up in the archive, by tests/run. */
 #define _GNU_SOURCE
+#include "../include/zhevgulor.h"
 #include "cases.h"
 #include "sections.h"
 
@@ -10,6 +11,57 @@
 #include <string.h>
 #include <sys/mman.h>
 #include <ucontext.h>
+
+/* ---- Numbers ---- */
+
+/* Each number of the header is the tests' own. tests/run shows that this is asked of every one. */
+enum { MOST_STACK = 96 * 1024 };
+#define SAME(of_header, own) _Static_assert((of_header) == (own), #of_header)
+SAME(ZHEVGULOR_TEXT_BYTES, MOST_BYTES);
+SAME(ZHEVGULOR_NODES, MOST_NODES);
+SAME(ZHEVGULOR_LINKS, MOST_LINKS);
+SAME(ZHEVGULOR_PACKETS, MOST_PACKETS);
+SAME(ZHEVGULOR_PATH_HOPS, MOST_PATH_HOPS);
+SAME(ZHEVGULOR_HOPS, MOST_HOPS);
+SAME(ZHEVGULOR_LATEST_START, LATEST_START);
+SAME(ZHEVGULOR_PLANNED_START, LATEST_PLANNED);
+SAME(ZHEVGULOR_LEAD, GREATEST_LEAD);
+SAME(ZHEVGULOR_PLAN_BYTES, MOST_PLAN_BYTES);
+SAME(ZHEVGULOR_CLASH, CLASH_NUMBERS);
+SAME(ZHEVGULOR_STACK_BYTES, MOST_STACK);
+
+/* ---- Lists that were read ---- */
+
+/* As the header shows it: the text is read, and the lists are handed on to be planned and written. The plan is the text's. */
+static int planned_in_two_steps(const struct text *text, uint8_t *plan, size_t bytes)
+{
+    static uint16_t origins[ZHEVGULOR_LINKS], ends[ZHEVGULOR_LINKS], sources[ZHEVGULOR_PACKETS], stops[ZHEVGULOR_PACKETS],
+        hops[ZHEVGULOR_HOPS], starts[ZHEVGULOR_PACKETS];
+    static uint8_t written[ZHEVGULOR_PLAN_BYTES];
+    zhevgulor_read_answer j = zhevgulor_read(text->byte, text->bytes, origins, ZHEVGULOR_LINKS, ends, ZHEVGULOR_LINKS,
+        sources, ZHEVGULOR_PACKETS, stops, ZHEVGULOR_PACKETS, hops, ZHEVGULOR_HOPS);
+    zhevgulor_answer answer = zhevgulor_starts((uint16_t)j.nodes, origins, j.links, ends, j.links, sources, j.packets,
+        stops, j.packets, hops, j.hops, starts, ZHEVGULOR_PACKETS);
+    if (j.refusal != 0 || answer.refusal != 0 || answer.value != j.packets)
+        return 0;
+    answer = zhevgulor_plan_text((uint16_t)j.nodes, origins, j.links, ends, j.links, sources, j.packets,
+        stops, j.packets, hops, j.hops, starts, answer.value, written, sizeof written);
+    return answer.refusal == 0 && answer.value == bytes && memcmp(written, plan, bytes) == 0;
+}
+
+void read_and_plan(void)
+{
+    static struct text text;
+    static struct job job;
+    static uint8_t plan[ROOM];
+    for (int i = 0; i < 200; i++) {
+        seed(8000 + (uint64_t)i);
+        random_job(&job, (enum family)(i % FAMILIES), (enum crowd)(i / FAMILIES % CROWDS), i == 199);
+        text_of_job(&job, &text);
+        size_t bytes = simple_plan(text.byte, text.bytes, plan, ROOM).value;
+        expect(planned_in_two_steps(&text, plan, bytes), "random job %d, read and then planned", i);
+    }
+}
 
 /* ---- Several threads at once ---- */
 
@@ -56,7 +108,9 @@ static const struct call *call;
 static void call_there(void)
 {
     static struct outcome outcome;
-    call_planner(call, outcome.lent);
+    void *lent[JOB_LISTS];
+    part_lent(call, outcome.lent, lent);
+    call_planner(call, lent);
 }
 
 static void go_there(uint8_t *bottom)

@@ -6,10 +6,10 @@
 
 /* The seeds, and how many of each. */
 enum {
-    FIRST_JOB = 1000000, JOBS = 20000,
-    FIRST_LARGE = 2000000, LARGE = 100,
-    FIRST_TEXT = 3000000, TEXTS = 100000,
-    FIRST_LISTS = 4000000, LISTS = 40000
+    FIRST_JOB = 1000000, JOBS = 12000,
+    FIRST_LARGE = 2000000, LARGE = 30,
+    FIRST_TEXT = 3000000, TEXTS = 55000,
+    FIRST_LISTS = 4000000, LISTS = 24000
 };
 
 long gaps;
@@ -61,6 +61,10 @@ static void random_case(int number, int large)
     run_text(&text, bytes);
     run_text(&text, bytes - 1);
     run_text(&text, pick((unsigned)bytes + 40));
+    name_cases("%s, read", name);
+    run_read(&text, -1, (int)pick(4));
+    if (chance(20))
+        run_read(&text, (int)pick(JOB_LISTS), -(int)pick(1024) - 1);
 
     name_cases("%s, as lists", name);
     run_tables(&tables);
@@ -112,6 +116,8 @@ static void damaged_text(int number)
         damage_text(&text, &job, line);
     name_cases("damaged text %d", number);
     run_text(&text, chance(85) ? MIDDLE_ROOM : pick(60));
+    if (chance(30))
+        run_read(&text, chance(50) ? -1 : (int)pick(JOB_LISTS), between(-1, 20));
 }
 
 void damaged_texts(void)

@@ -2,10 +2,10 @@
 #ifndef SECTIONS_H
 #define SECTIONS_H
 
-#include "../include/zhevgulor.h"
+#include "simple.h"
 
 /* Rooms for plans: of any job, of some 75 packets, of a handful. */
-enum { ROOM = ZHEVGULOR_PLAN_BYTES, MIDDLE_ROOM = 1500, SMALL_ROOM = 300 };
+enum { ROOM = MOST_PLAN_BYTES, MIDDLE_ROOM = 1500, SMALL_ROOM = 300 };
 
 void sessions(void);
 
@@ -20,6 +20,7 @@ void wrong_pairs(void);
 /* limits.c: up to every limit and over it. */
 void limits(void);
 void rooms(void);
+void reader_lists(void);
 void full_jobs(void);
 
 /* random.c: from seeds. */
@@ -31,6 +32,7 @@ void damaged_lists(void);
 void print_seeds(void);
 
 /* promises.c: what zhevgulor.h says beside the answers. */
+void read_and_plan(void);
 void threads(void);
 void stack(void);
 

@@ -26,6 +26,26 @@ static void session_text(const char *name, const char *shown, const char *plan)
                    && memcmp(planner.lent, expected.byte, expected.bytes) == 0, "%s", label);
 }
 
+/* It is read into these lists, one digit for each element. Behind them all is zero. */
+static void session_read(const char *name, const char *shown, int nodes, const char *const digits[JOB_LISTS])
+{
+    size_t count[JOB_LISTS], places = 0;
+    show_text(&text, shown);
+    name_cases("session %s, read", name);
+    run_read(&text, -1, 1);
+    const uint16_t *list = lent_starts(&planner);
+    int right = 1;
+    for (int i = 0; i < JOB_LISTS; list += places, i++) {
+        count[i] = strlen(digits[i]);
+        places = list_size[i] + 1;
+        for (size_t at = 0; at < places; at++)
+            right &= list[at] == (at < count[i] ? digits[i][at] - '0' : 0);
+    }
+    const struct answer *a = &planner.answer;
+    expect(right && a->refusal == 0 && a->value == 0 && a->nodes == (uint32_t)nodes && a->links == count[0] && a->links == count[1]
+               && a->packets == count[2] && a->packets == count[3] && a->hops == count[4], "%s", label);
+}
+
 /* It also has these starts, one digit for each, if it comes as lists. */
 static void session(const char *name, const char *shown, const char *plan, const char *digits)
 {
@@ -84,6 +104,7 @@ void sessions(void)
     session("A", session_a, "S 0 0 3\nS 1 0 2\nS 2 1 3\nS 3 0 1\nT 3 3 3\n", "0010");
     for (int k = 0; k < 4; k++)
         expect(meetings(&job, k) == met[k], "session A: meetings of packet %d", k);
+    session_read("A", session_a, 4, (const char *const[]){ "012", "123", "0102", "3578", "01212012" });
     session_check("0059", NULL);
     session_check("0000", all_zero);
     session_check("0100", second_late);
@@ -101,6 +122,7 @@ void sessions(void)
     session_refused("wrong end", "N 2\nL 0 1\nL 1 0\n", 0, 1, 1, 7);
     session("two directions", "N 2\nL 0 1\nL 1 0\nP 0 0\nP 1 1\n", "S 0 0 1\nS 1 0 1\nT 1 1 1\n", "00");
 
+    session_read("no packets", "N 4\nL 0 1\nL 1 2\nL 2 3\n", 4, (const char *const[]){ "012", "123", "", "", "" });
     session("no packets", "N 4\nL 0 1\nL 1 2\nL 2 3\n", "T 0 0 0\n", "");
     session("no hops", "N 1\nP 0\n", "S 0 0 0\nT 0 0 0\n", "0");
 

@@ -18,9 +18,9 @@ static int planted(enum wrong name) { return wrong == name; }
 /* What is added to a limit that is off by one. */
 #define OFF(limit) (planted(limit##_MORE) - planted(limit##_LESS))
 
-static struct answer fine(void) { return (struct answer){ 0, 0, 0 }; }
-static struct answer value(size_t number) { return (struct answer){ 0, (uint32_t)number, 0 }; }
-static struct answer refuse(int number, size_t place) { return (struct answer){ (uint32_t)number, (uint32_t)place, 0 }; }
+static struct answer fine(void) { return (struct answer){ 0 }; }
+static struct answer value(size_t number) { return (struct answer){ .value = (uint32_t)number }; }
+static struct answer refuse(int number, size_t place) { return (struct answer){ (uint32_t)number, .value = (uint32_t)place }; }
 
 /* ---- Paths ---- */
 
@@ -255,7 +255,6 @@ static struct answer first_bad_form(const uint8_t *text, size_t bytes)
 static struct answer read_lines(const uint8_t *text, size_t bytes, struct job *job)
 {
     struct line line = { 0 };
-    job->nodes = job->links = job->packets = 0;
     for (size_t at = 0; next_line(text, bytes, &at, &line);) {
         if (planted(EMPTY_LINE) && line.empty && line.ended)
             continue;
@@ -267,16 +266,31 @@ static struct answer read_lines(const uint8_t *text, size_t bytes, struct job *j
     return fine();
 }
 
+/* 1: the text is too long. */
+static int too_long(size_t bytes) { return bytes > (size_t)(MOST_BYTES + OFF(BYTES)); }
+
+/* In the order given: 1; A, which is 10, if a lent list is too short; f, bad form anywhere; l, the lines. */
+static struct answer read_in_order(const uint8_t *text, size_t bytes, struct job *job, const char *order, int too_short)
+{
+    job->nodes = job->links = job->packets = 0;
+    for (; *order; order++) {
+        struct answer found = fine();
+        switch (*order) {
+        case '1': if (too_long(bytes)) found = refuse(1, 0); break;
+        case 'A': if (too_short) found = refuse(10, 0); break;
+        case 'f': found = first_bad_form(text, bytes); break;
+        case 'l': found = read_lines(text, bytes, job); break;
+        }
+        if (found.refusal)
+            return found;
+    }
+    return fine();
+}
+
 /* 1; then the lines. */
 struct answer read_job(const uint8_t *text, size_t bytes, struct job *job)
 {
-    struct answer early = planted(TEXT_2_BEFORE_1) ? read_lines(text, bytes, job)
-                        : planted(TEXT_FORM_FIRST) && bytes <= MOST_BYTES ? first_bad_form(text, bytes) : fine();
-    if (early.refusal)
-        return early;
-    if (bytes > (size_t)(MOST_BYTES + OFF(BYTES)))
-        return refuse(1, 0);
-    return read_lines(text, bytes, job);
+    return read_in_order(text, bytes, job, planted(TEXT_2_BEFORE_1) ? "l1" : planted(TEXT_FORM_FIRST) ? "1fl" : "1l", 0);
 }
 
 /* ---- Jobs as lists ---- */
@@ -662,9 +676,87 @@ static void take_starts(const uint16_t *starts)
         the_start[k] = starts[k];
 }
 
-/* ---- The six functions ---- */
+/* ---- The reader's lists ---- */
 
-enum { LEAST_PLAN = sizeof "T\t0\t0\t0\n" - 1, CLASH = 4 };
+/* Origins, ends, sources, stops, hops. */
+enum { ORIGINS, ENDS, SOURCES, STOPS, HOPS };
+const size_t list_size[JOB_LISTS] = { MOST_LINKS, MOST_LINKS, MOST_PACKETS, MOST_PACKETS, MOST_HOPS };
+
+/* Whether a lent list is shorter than its size. */
+static int lists_too_short(const size_t *count)
+{
+    static const enum wrong unseen[JOB_LISTS] = { READ_ORIGINS_UNSEEN, READ_ENDS_UNSEEN, READ_SOURCES_UNSEEN, READ_STOPS_UNSEEN,
+                                                  READ_HOPS_UNSEEN };
+    for (int i = 0; i < JOB_LISTS; i++)
+        if (count[i] < list_size[i] + (size_t)planted(READ_SIZE_REFUSED) && !planted(unseen[i]))
+            return 1;
+    return 0;
+}
+
+/* Only wrong rules come to a place past the end. */
+static void put(uint16_t *const *list, const size_t *count, int i, int place, int number)
+{
+    if ((size_t)place < count[i])
+        list[i][place] = (uint16_t)number;
+}
+
+static void put_job(const struct job *job, uint16_t *const *list, const size_t *count)
+{
+    int hops = 0, turned = planted(READ_LINKS_TURNED);
+    for (int i = 0; i < job->links; i++) {
+        put(list, count, turned ? ENDS : ORIGINS, i, job->link[i].from);
+        put(list, count, turned ? ORIGINS : ENDS, i, job->link[i].to);
+    }
+    for (int k = 0; k < job->packets; k++) {
+        const struct packet *packet = &job->packet[k];
+        put(list, count, SOURCES, k, packet->source);
+        put(list, count, STOPS, k, planted(READ_STOPS_AT_BEGIN) ? hops : hops + packet->hops);
+        for (int hop = 0; hop < packet->hops; hop++)
+            put(list, count, HOPS, hops++, packet->link[hop]);
+    }
+}
+
+/* Every place of every list, also past its size. */
+static void clear_lists(uint16_t *const *list, const size_t *count)
+{
+    for (int i = 0; i < JOB_LISTS; i++) {
+        size_t places = planted(READ_SIZES_CLEARED) && count[i] > list_size[i] ? list_size[i] : count[i];
+        if (places > 0)
+            memset(list[i], 0, places * sizeof list[i][0]);
+    }
+}
+
+static struct answer counts_of(const struct job *job, struct answer answer)
+{
+    answer.nodes = (uint32_t)job->nodes;
+    answer.links = (uint32_t)job->links;
+    answer.packets = (uint32_t)job->packets;
+    answer.hops = (uint32_t)hops_in_all(job);
+    return answer;
+}
+
+/* ---- The seven functions ---- */
+
+enum { LEAST_PLAN = sizeof "T\t0\t0\t0\n" - 1 };
+
+/* The reader: 1; 10; then the lines. After 1 and 10 the lists are as they were. After any other refusal they are all zero, and
+ * otherwise all zero behind the job. */
+struct answer simple_read(const uint8_t *text, size_t bytes, uint16_t *const *list, const size_t *count)
+{
+    const char *order = planted(TEXT_2_BEFORE_1) ? "lA1"
+                      : planted(TEXT_FORM_FIRST) ? "1Afl"
+                      : planted(READ_10_BEFORE_1) ? "A1l"
+                      : planted(READ_10_LAST) ? "1lA" : "1Al";
+    struct answer answer = read_in_order(text, bytes, &the_job, order, lists_too_short(count));
+    int unchanged = answer.refusal == 1 ? !planted(READ_1_CLEARS)
+                  : answer.refusal == 10 ? !planted(READ_10_CLEARS)
+                  : answer.refusal ? planted(READ_REFUSED_UNCHANGED) : planted(READ_PAST_UNCHANGED);
+    if (!unchanged)
+        clear_lists(list, count);
+    if (!answer.refusal || (planted(READ_HALF_FILLED) && !unchanged))
+        put_job(&the_job, list, count);
+    return !answer.refusal || planted(READ_REFUSED_COUNTED) ? counts_of(&the_job, answer) : answer;
+}
 
 /* From text to text: the text's refusals, then 10. */
 struct answer simple_plan(const uint8_t *text, size_t bytes, uint8_t *room, size_t room_bytes)
@@ -720,13 +812,13 @@ static int find_clash(const struct job *job, const int *start, uint32_t *clash)
 struct answer simple_check(const struct lists *lists, const uint16_t *starts, size_t starts_count,
                            uint32_t *clash, size_t clash_count)
 {
-    uint32_t found[CLASH];
+    uint32_t found[CLASH_NUMBERS];
     struct question q = { .lists = lists, .starts = starts, .starts_count = starts_count };
     struct answer refusal = ask_given(&q);
     if (refusal.refusal)
-        return room_early(refusal, clash_count < CLASH);
+        return room_early(refusal, clash_count < CLASH_NUMBERS);
     take_starts(starts);
-    return deliver(found, find_clash(&the_job, the_start, found) ? CLASH : 0, sizeof found[0], clash, clash_count);
+    return deliver(found, find_clash(&the_job, the_start, found) ? CLASH_NUMBERS : 0, sizeof found[0], clash, clash_count);
 }
 
 /* The lead: the tables, 11, 12, 13; then by how many steps a comes later to the link than b. */
@@ -741,7 +833,7 @@ struct answer simple_lead(const struct lists *lists, const uint16_t *starts, siz
         return refusal;
     int lead = entry_step(starts[a], place_on_path(&the_job.packet[a], link))
              - entry_step(starts[b], place_on_path(&the_job.packet[b], link));
-    return (struct answer){ 0, 0, planted(LEAD_TURNED) ? -lead : lead };
+    return (struct answer){ .lead = planted(LEAD_TURNED) ? -lead : lead };
 }
 
 /* The writer: the tables, 11, 12; then the plan with the starts given, whatever they are; 10 last. */

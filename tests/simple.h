@@ -16,7 +16,11 @@ enum {
     MOST_PATH_HOPS = 255,
     MOST_HOPS = 16384,
     LATEST_START = 32767,
-    LARGEST_NUMBER = 65535
+    LARGEST_NUMBER = 65535,
+    LATEST_PLANNED = 16384, /* of the starts that are found */
+    MOST_PLAN_BYTES = 19473,
+    GREATEST_LEAD = 33021,
+    CLASH_NUMBERS = 4       /* packet, earlier packet, link, step */
 };
 
 /* A job. There is room for one more of each thing than is allowed, for the wrong rules that let it pass. */
@@ -37,14 +41,20 @@ struct lists {
     size_t origins_count, ends_count, sources_count, stops_count, hops_count;
 };
 
-/* Refusal 0, and the value or the lead; or the refusal's number, and its place as the value. */
+/* Refusal 0, and the value, the lead or the counts; or the refusal's number, and its place as the value. */
 struct answer {
     uint32_t refusal, value;
     int32_t lead;
+    uint32_t nodes, links, packets, hops;
 };
 
-/* What the six functions of zhevgulor.h have to answer and to write. */
+/* The lists that the reader is lent: how many there are, and the size of each. */
+enum { JOB_LISTS = 5 };
+extern const size_t list_size[JOB_LISTS];
+
+/* What the seven functions of zhevgulor.h have to answer and to write. */
 struct answer simple_plan(const uint8_t *text, size_t bytes, uint8_t *room, size_t room_bytes);
+struct answer simple_read(const uint8_t *text, size_t bytes, uint16_t *const *list, const size_t *count);
 struct answer simple_tables(const struct lists *lists);
 struct answer simple_starts(const struct lists *lists, uint16_t *starts, size_t starts_count);
 struct answer simple_check(const struct lists *lists, const uint16_t *starts, size_t starts_count,

@@ -57,6 +57,7 @@ void wrong_forms(void)
         name_cases("form %s", on_one_line(form[i]));
         run_text(&text, SMALL_ROOM);
         run_text(&text, 0);
+        run_read(&text, -1, (int)i % 3);
     }
 }
 
@@ -71,6 +72,8 @@ static void one_path(int source, const int *link, int hops)
         add(&text, "\t%d", link[hop]);
     add(&text, "\n");
     run_text(&text, SMALL_ROOM);
+    if (hops < 3)
+        run_read(&text, -1, 0);
 
     show_job(&job, triangle);
     tables_of_job(&job, &tables);
@@ -109,6 +112,8 @@ void short_lines(void)
                     add(&text, "%c\t%s\t%s%s\nP\t0\t4\n", "LP"[letter], numbers[from], numbers[to], ends[end]);
                     name_cases("line %c %s %s and end %zu", "LP"[letter], numbers[from], numbers[to], end);
                     run_text(&text, SMALL_ROOM);
+                    if (from == to)
+                        run_read(&text, -1, 0);
                 }
     short_paths();
 }
@@ -127,6 +132,8 @@ void single_bytes(void)
                 text.byte[at] = (uint8_t)byte;
                 name_cases("byte %d at %zu, instead %d", byte, at, instead);
                 run_text(&text, SMALL_ROOM);
+                if (instead)
+                    run_read(&text, -1, 0);
             }
 }
 

@@ -19,7 +19,7 @@ static const char *first_notice(enum function function)
     for (size_t i = 0; i < kept_count; i++)
         if (kept[i].call.function == function) {
             ask_simple(&kept[i].call, &mistaken);
-            if (!same(&kept[i].call, &mistaken, &kept[i].answer, kept[i].lent))
+            if (!same_as_kept(&kept[i], &mistaken))
                 return kept[i].label;
         }
     return NULL;
@@ -71,6 +71,7 @@ void teeth(void)
 static const long least[FUNCTIONS][REFUSALS] = {
     /*                  0   1      2     3     4     5     6     7    8     9     10     11     12     13 */
     [PLAN] =      { 30000, 30, 40000,  400, 5000,  700, 3000, 3000, 900,   -1, 15000,    -1,    -1,    -1 },
+    [READ] =      {  8000, 40,  9000,  110, 1000,  150,  600,  500, 200,   -1,  2000,    -1,    -1,    -1 },
     [TABLES] =    { 10000, -1,    -1, 1000, 5000, 2000, 1000, 3000, 600, 9000,    -1,    -1,    -1,    -1 },
     [STARTS] =    { 25000, -1,    -1, 1000, 5000, 2000, 1000, 3000, 600, 9000,  9000,    -1,    -1,    -1 },
     [CHECK] =     { 50000, -1,    -1, 1000, 5000, 2000, 1000, 3000, 600, 9000,  2500, 15000,  9000,    -1 },

@@ -5,20 +5,22 @@
 #ifndef WRONG_H
 #define WRONG_H
 
-enum function { PLAN, TABLES, STARTS, CHECK, LEAD, PLAN_TEXT, FUNCTIONS };
+enum function { PLAN, READ, TABLES, STARTS, CHECK, LEAD, PLAN_TEXT, FUNCTIONS };
 
 enum {
     BY_PLAN = 1 << PLAN,
+    BY_READ = 1 << READ,
     BY_STARTS = 1 << STARTS,
     BY_CHECK = 1 << CHECK,
     BY_LEAD = 1 << LEAD,
     BY_PLAN_TEXT = 1 << PLAN_TEXT,
+    BY_TEXT = BY_PLAN | BY_READ,                                /* those that take a job as text */
     BY_PLANNERS = BY_PLAN | BY_STARTS,
     BY_WRITERS = BY_PLAN | BY_PLAN_TEXT,
-    BY_LENT = BY_PLANNERS | BY_CHECK | BY_PLAN_TEXT,            /* those with a list lent for the answer */
+    BY_LENT = BY_PLANNERS | BY_CHECK | BY_PLAN_TEXT,            /* those with one list lent for the answer */
     BY_GIVEN = BY_CHECK | BY_LEAD | BY_PLAN_TEXT,               /* those that take starts */
     BY_LISTS = 1 << TABLES | BY_STARTS | BY_GIVEN,              /* those that take a job as lists */
-    BY_ALL = BY_PLAN | BY_LISTS
+    BY_ALL = BY_TEXT | BY_LISTS
 };
 
 #define OFF_BY_ONE(X, name, functions, words) \
@@ -35,12 +37,12 @@ enum {
     X(DIRECTIONS_BLOCK, BY_PLANNERS | BY_CHECK, "the two directions of a wire block each other") \
     X(PARALLELS_BLOCK, BY_PLANNERS | BY_CHECK, "parallel links block each other") \
     /* refusals in another order: text */ \
-    X(TEXT_2_BEFORE_1, BY_PLAN, "text: the lines come before the length") \
-    X(TEXT_3_BEFORE_2, BY_PLAN, "text: 3 before 2 on a line") \
-    X(TEXT_4_BEFORE_3, BY_PLAN, "text: 4 before 3 on a line") \
-    X(TEXT_5_BEFORE_4, BY_PLAN, "text: 5 before 4 on a line") \
-    X(TEXT_HOPS_BEFORE_4, BY_PLAN, "text: the hops before 4 on a line") \
-    X(TEXT_FORM_FIRST, BY_PLAN, "text: bad form further down before any other refusal further up") \
+    X(TEXT_2_BEFORE_1, BY_TEXT, "text: the lines come before the length") \
+    X(TEXT_3_BEFORE_2, BY_TEXT, "text: 3 before 2 on a line") \
+    X(TEXT_4_BEFORE_3, BY_TEXT, "text: 4 before 3 on a line") \
+    X(TEXT_5_BEFORE_4, BY_TEXT, "text: 5 before 4 on a line") \
+    X(TEXT_HOPS_BEFORE_4, BY_TEXT, "text: the hops before 4 on a line") \
+    X(TEXT_FORM_FIRST, BY_TEXT, "text: bad form further down before any other refusal further up") \
     /* ... paths */ \
     X(PATH_7_BEFORE_6, BY_ALL, "path: 7 before 6 at a hop") \
     X(PATH_8_BEFORE_7, BY_ALL, "path: 8 before 7 at a hop") \
@@ -62,27 +64,27 @@ enum {
     X(LEAD_13_BEFORE_12, BY_LEAD, "13 before 12") \
     X(LEAD_13_BEFORE_LISTS, BY_LEAD, "13 for a packet with itself before the lists are looked at") \
     /* limits */ \
-    OFF_BY_ONE(X, BYTES, BY_PLAN, "bytes of a text") \
+    OFF_BY_ONE(X, BYTES, BY_TEXT, "bytes of a text") \
     OFF_BY_ONE(X, NODES, BY_ALL, "nodes") \
     OFF_BY_ONE(X, LINKS, BY_ALL, "links") \
     OFF_BY_ONE(X, PACKETS, BY_ALL, "packets") \
     OFF_BY_ONE(X, PATH_HOPS, BY_ALL, "hops of a path") \
     OFF_BY_ONE(X, HOPS, BY_ALL, "hops in all") \
     OFF_BY_ONE(X, START, BY_GIVEN, "a start") \
-    OFF_BY_ONE(X, NUMBER, BY_PLAN, "a number in a text") \
+    OFF_BY_ONE(X, NUMBER, BY_TEXT, "a number in a text") \
     OFF_BY_ONE(X, NODE_NUMBER, BY_ALL, "a node's number") \
     OFF_BY_ONE(X, LINK_NUMBER, BY_ALL, "a link's number") \
     X(NO_NODES, BY_ALL, "nodes: none at all passes") \
     /* bad forms that are taken */ \
-    X(CARRIAGE_RETURN, BY_PLAN, "form: a carriage return before the line feed passes") \
-    X(LEADING_ZERO, BY_PLAN, "form: leading zeros pass") \
-    X(LINK_BELOW_PACKET, BY_PLAN, "form: an L line below a P line passes") \
-    X(NO_LAST_LINE_FEED, BY_PLAN, "form: the last line feed may be missing") \
-    X(EMPTY_LINE, BY_PLAN, "form: empty lines are skipped") \
-    X(EXTRA_FIELD, BY_PLAN, "form: one number too many on an N or L line passes") \
-    X(SPACE_FOR_TAB, BY_PLAN, "form: a space parts fields as a tab does") \
+    X(CARRIAGE_RETURN, BY_TEXT, "form: a carriage return before the line feed passes") \
+    X(LEADING_ZERO, BY_TEXT, "form: leading zeros pass") \
+    X(LINK_BELOW_PACKET, BY_TEXT, "form: an L line below a P line passes") \
+    X(NO_LAST_LINE_FEED, BY_TEXT, "form: the last line feed may be missing") \
+    X(EMPTY_LINE, BY_TEXT, "form: empty lines are skipped") \
+    X(EXTRA_FIELD, BY_TEXT, "form: one number too many on an N or L line passes") \
+    X(SPACE_FOR_TAB, BY_TEXT, "form: a space parts fields as a tab does") \
     /* places and answers */ \
-    X(LINES_FROM_0, BY_PLAN, "lines are counted from 0") \
+    X(LINES_FROM_0, BY_TEXT, "lines are counted from 0") \
     X(LATE_AT_HIGHEST, BY_GIVEN, "12 at the highest packet, not at the lowest") \
     X(C_AND_D_SWAPPED, BY_WRITERS, "C and D are swapped") \
     X(CLASH_HIGHEST_PACKET, BY_CHECK, "the highest clashing packet is shown") \
@@ -94,7 +96,25 @@ enum {
     /* lent lists */ \
     X(EXACT_ROOM_REFUSED, BY_LENT, "10 although the room is just enough") \
     X(REFUSAL_WRITES, BY_LENT, "10, but as much as fits is written") \
-    X(WRITES_PAST, BY_LENT, "one place after the answer is changed too")
+    X(WRITES_PAST, BY_LENT, "one place after the answer is changed too") \
+    /* the reader's lists */ \
+    X(READ_10_BEFORE_1, BY_READ, "reader: 10 before 1") \
+    X(READ_10_LAST, BY_READ, "reader: 10 after the lines") \
+    X(READ_SIZE_REFUSED, BY_READ, "reader: 10 although every list has its size") \
+    X(READ_ORIGINS_UNSEEN, BY_READ, "reader: origins may be too short") \
+    X(READ_ENDS_UNSEEN, BY_READ, "reader: ends may be too short") \
+    X(READ_SOURCES_UNSEEN, BY_READ, "reader: sources may be too short") \
+    X(READ_STOPS_UNSEEN, BY_READ, "reader: stops may be too short") \
+    X(READ_HOPS_UNSEEN, BY_READ, "reader: hops may be too short") \
+    X(READ_1_CLEARS, BY_READ, "reader: the lists are all zero after 1") \
+    X(READ_10_CLEARS, BY_READ, "reader: the lists are all zero after 10") \
+    X(READ_REFUSED_UNCHANGED, BY_READ, "reader: other refusals leave the lists as they were") \
+    X(READ_HALF_FILLED, BY_READ, "reader: after other refusals the lists hold what was read until then") \
+    X(READ_REFUSED_COUNTED, BY_READ, "reader: the counts of a refused text are those read until then") \
+    X(READ_PAST_UNCHANGED, BY_READ, "reader: places past the counts are left as they were") \
+    X(READ_SIZES_CLEARED, BY_READ, "reader: places past a list's size are left as they were") \
+    X(READ_LINKS_TURNED, BY_READ, "reader: origins and ends are taken for each other") \
+    X(READ_STOPS_AT_BEGIN, BY_READ, "reader: a stop is where the path begins")
 
 #define WRONG_NAME(name, functions, words) name,
 enum wrong { NOTHING_WRONG, WRONG_RULES(WRONG_NAME) WRONG_COUNT };

@@ -33,10 +33,13 @@ use Rattle.planner.specs.declared.Led.{Led}
 use Rattle.planner.specs.declared.Led.the-variants.{By, Refused as LeadRefused}
 use Rattle.planner.specs.Told.{PlannedAs, checkedOf, ledOf}
 use Rattle.planner.proofs.Obeys.{planned-greedy}
+use Rattle.job_text.specs.declared.Reading.{Reading}
+use Rattle.job_text.specs.Told.{Lists, readIn, readingOf, ReadAs}
 use Rattle.plan_text.specs.declared.Written.{Written}
 use Rattle.plan_text.specs.Told.{writtenOf, WrittenAs}
 use Rattle.zhevgulor.specs.declared.Answer.{Answer}
-use Rattle.zhevgulor.specs.Told.{answerFor, leadFor, LentAs, checkedIn}
+use Rattle.zhevgulor.specs.declared.ReadAnswer.{ReadAnswer}
+use Rattle.zhevgulor.specs.Told.{answerFor, leadFor, readFor, LentAs, checkedIn, ReadFor}
 
 -- no refusal has the number 0, which stands for a value: so a C program can tell them apart
 pub number-not-zero : (r : Refusal) → eqb (numberPlace r .0) 0 ≡ false
@@ -137,3 +140,9 @@ module _ (j : Job) (starts : List ℕ) (a b link : ℕ) (l : Led) (same : ledOf 
 
 pub text-told : (o : Outcome (List ℕ)) {w : Written} {told : Answer} {lent after : List ℕ} → WrittenAs o w lent after → told ≡ answerFor (writtenOf w) → LentAs o told lent after
 text-told o w t = record { answered = t ∙ ap answerFor (w .bytes); list = w .room }
+
+-- ---- the reader
+
+pub read-told : {text : List ℕ} {reading : Reading} {told : ReadAnswer} {lent after : Lists}
+    → ReadAs (readIn text lent) reading lent after → told ≡ readFor (readingOf reading) → ReadFor text told lent after
+read-told a t = record { answered = t ∙ ap readFor (a .answer); lists = a .lists }

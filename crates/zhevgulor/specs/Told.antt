@@ -9,8 +9,11 @@ use Rattle.rules.specs.Network.{Job}
 use Rattle.rules.specs.Outcome.{Outcome, is, refused, onward}
 use Rattle.rules.specs.Check.{Clash}
 use Rattle.rules.specs.Answers.{inRoom, lentAfter, checked}
+use Rattle.job.specs.declared.Job.{Job as Counts}
+use Rattle.job_text.specs.Told.{Lists, readIn, listsAfter, countsOf}
 use Rattle.zhevgulor.specs.declared.Answer.{Answer}
 use Rattle.zhevgulor.specs.declared.LeadAnswer.{LeadAnswer}
+use Rattle.zhevgulor.specs.declared.ReadAnswer.{ReadAnswer}
 
 -- a value behind refusal 0, or a refusal's number with its place
 abbrev pub answerFor : Outcome ℕ → Answer
@@ -20,6 +23,11 @@ answerFor (refused number place) = record { refusal = number; value = place }
 abbrev pub leadFor : Outcome ℤ → LeadAnswer
 leadFor (is z) = record { refusal = 0; place = 0; lead = z }
 leadFor (refused number place) = record { refusal = number; place = place; lead = pos 0 }
+
+-- the counts behind refusal 0, or a refusal with 0 for each count
+abbrev pub readFor : Outcome Counts → ReadAnswer
+readFor (is c) = record { refusal = 0; value = 0; nodes = c .nodes; links = c .links; packets = c .packets; hops = c .hops }
+readFor (refused number place) = record { refusal = number; value = place; nodes = 0; links = 0; packets = 0; hops = 0 }
 
 -- an answer that is written into a lent list: its length is told, and the list afterwards holds it in its first places
 pub record LentAs (answer : Outcome (List ℕ)) (told : Answer) (lent after : List ℕ) : Type 0 where
@@ -34,3 +42,8 @@ clashNumbers (some c) = c .later ∷ c .earlier ∷ c .resource ∷ c .step ∷ 
 -- the check with room for so many numbers
 unfoldable pub checkedIn : Job → List ℕ → ℕ → Outcome (List ℕ)
 checkedIn j starts room = onward (checked j starts) (λ found. inRoom (clashNumbers found) room)
+
+-- the reader's answer, and the five lists afterwards
+pub record ReadFor (text : List ℕ) (told : ReadAnswer) (lent after : Lists) : Type 0 where
+  pub answered : told ≡ readFor (onward (readIn text lent) (λ j. is (countsOf j)))
+  pub lists : after ≡ listsAfter (readIn text lent) lent

@@ -8,11 +8,13 @@ ghost use Rattle.rules.specs.Tables.{tables as tablesVerdict};
 ghost use Rattle.rules.specs.Answers.{planned, led, inRoom, written, answered};
 ghost use Rattle.job.specs.Lists.{jobIn};
 ghost use Rattle.job.specs.Told.{refusalOf};
+ghost use Rattle.job_text.specs.Told.{listsGiven, listsLeft, readingOf};
 ghost use Rattle.plan_text.specs.Told.{writtenOf};
-ghost use Rattle.zhevgulor.specs.Told.{answerFor, leadFor, LentAs, checkedIn};
+ghost use Rattle.zhevgulor.specs.Told.{answerFor, leadFor, readFor, LentAs, checkedIn, ReadFor};
 use job::Refusal;
 use job::Step;
 use job::Verdict;
+use job_text::Reading;
 use plan_text::Written;
 use planner::Checked;
 use planner::Led;
@@ -30,6 +32,17 @@ pub struct LeadAnswer {
     pub refusal: u32,
     pub place: u32,
     pub lead: i32,
+}
+
+// Refusal 0, value 0 and how much of each thing the job has; or a refusal's number and its place, and 0 of each thing.
+#[repr(C)]
+pub struct ReadAnswer {
+    pub refusal: u32,
+    pub value: u32,
+    pub nodes: u32,
+    pub links: u32,
+    pub packets: u32,
+    pub hops: u32,
 }
 
 fn value(n: u32) -> Answer
@@ -207,4 +220,43 @@ pub extern "C" fn zhevgulor_plan(job: &[u8], room: &mut [u8]) -> Answer
 {
     let text = answer::answer(job, room);
     told(text)
+}
+
+fn counts(reading: Reading) -> ReadAnswer
+    ensures { λ r. ⌜ r ≡ readFor (readingOf reading) ⌝ }
+{
+    match reading {
+        Reading::Read(job) => ReadAnswer {
+            refusal: 0,
+            value: 0,
+            nodes: job.nodes as u32,
+            links: job.links as u32,
+            packets: job.packets as u32,
+            hops: job.hops as u32,
+        },
+        Reading::Refused(reason) => ReadAnswer {
+            refusal: reason.number(),
+            value: reason.place(),
+            nodes: 0,
+            links: 0,
+            packets: 0,
+            hops: 0,
+        },
+    }
+}
+
+// From a job's text to its lists, which stand in the first places: the counts tell how many.
+#[no_mangle]
+pub extern "C" fn zhevgulor_read(
+    job: &[u8],
+    origins: &mut [u16],
+    ends: &mut [u16],
+    sources: &mut [u16],
+    stops: &mut [u16],
+    hops: &mut [u16],
+) -> ReadAnswer
+    ensures { λ r. ⌜ ReadFor (given job) r (listsGiven origins ends sources stops hops) (listsLeft origins ends sources stops hops) ⌝ }
+{
+    let reading = job_text::read(job, origins, ends, sources, stops, hops);
+    counts(reading)
 }
