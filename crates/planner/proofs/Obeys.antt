@@ -40,7 +40,7 @@ module _ (j : Job) (room : ℕ) (lent after : List ℕ) (p : PlannedAs (planned 
   plan-writes-starts = rw plan-writes-greedy (greedy-starts j)
 
   -- and these obey the bounds
-  pub plan-bounded : Bounded j
+  pub plan-bounded : Bounded j (greedy j)
   plan-bounded = tables-bounded j (planned-greedy .0)
 
 -- what is listed later moves nothing: two plans on one network whose first n packets are alike have their first n starts alike

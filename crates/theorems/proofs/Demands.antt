@@ -14,12 +14,13 @@ use Rattle.rules.specs.Claims.{claimsOf, placedBy}
 use Rattle.rules.specs.Greedy.{FirstFree, greedy}
 use Rattle.rules.specs.Counts.{endOf, linkCount, congestion, dilation, meetingsWith, meetings}
 use Rattle.rules.specs.JobText.{reading}
+use Rattle.rules.specs.Plain.{Takes, Starts}
 use Rattle.theorems.specs.Demands.{Bounded}
 use Rattle.theorems.specs.Jobs.{IsJob}
 use Rattle.theorems.specs.Simple.{Simple}
 use Rattle.theorems.proofs.Placements.{placed-by-at, take-placed-by}
 use Rattle.theorems.proofs.Packets.{pathsOf}
-use Rattle.theorems.proofs.Starts.{length-greedy, greedy-first}
+use Rattle.theorems.proofs.Starts.{length-greedy, greedy-first, only-greedy-starts}
 use Rattle.theorems.proofs.Paths.{path-links-exist, path-once}
 use Rattle.theorems.proofs.Accepted.{tables-fine-iff, hops-in-all, job-path, job-delayed, job-packet-paths, length-paths, length-packets}
 use Rattle.theorems.proofs.TextJobs.{reading-job}
@@ -62,7 +63,7 @@ module _ (j : Job) (job : IsJob j) where
   path-of : (k s : ℕ) → getElem? (greedy j) k ≡ some s → getElem? (paths j) k ≡ some (getD (paths j) k [])
   path-of k s e = at-getD (paths j) k [] (omega (arith, at-below (greedy j) k e, starts-count, length-paths j, job .stops-count))
 
-  pub job-bounded : Bounded j
+  pub job-bounded : Bounded j (greedy j)
   unfolding meetings congestion dilation
   job-bounded = record {
     meetings-count = length-meetings-after (linkCount j) [] (paths j);
@@ -88,8 +89,12 @@ module _ (j : Job) (job : IsJob j) where
           (λ l i. rw (paths-before k) (load-lt (linkCount j) (paths j) k p l f (rw same i) (packets-simple p m .below l (rw same i))))
           (hops-le-travel (delayIn j) (q .path) (rw same at (job-delayed j job m))) (rw same at (travel-le-dilation j m)))
 
-pub tables-bounded : (j : Job) → tables j ≡ fine → Bounded j
+-- so of the starts of demand 2, whatever computes them
+pub starts-bounded : (j : Job) (ss : List ℕ) → IsJob j → Starts (Takes (j .network)) (packets j) ss → Bounded j ss
+starts-bounded j ss job first = rw (only-greedy-starts j ss first) (job-bounded j job)
+
+pub tables-bounded : (j : Job) → tables j ≡ fine → Bounded j (greedy j)
 tables-bounded j e = job-bounded j (tables-fine-iff j .0 e)
 
-pub text-bounded : (text : List ℕ) (j : Job) → reading text ≡ is j → Bounded j
+pub text-bounded : (text : List ℕ) (j : Job) → reading text ≡ is j → Bounded j (greedy j)
 text-bounded text j e = job-bounded j (reading-job text j e)

@@ -2,14 +2,24 @@
 use mathlib.Core.Path.{_≡_, sym, _∙_}
 use mathlib.Core.List.{List}
 use Prim.Native.Nat.{ℕ}
+use Rattle.rules.specs.Network.{Job}
 use Rattle.rules.specs.Outcome.{Outcome}
 use Rattle.job_text.specs.Told.{Lists}
 use Rattle.zhevgulor.specs.declared.Answer.{Answer}
 use Rattle.zhevgulor.specs.declared.ReadAnswer.{ReadAnswer}
 use Rattle.zhevgulor.specs.Told.{LentAs, ReadFor}
+use Rattle.zhevgulor.specs.Promise.{PlanPromise, CheckPromise}
+use Rattle.zhevgulor.proofs.Promises.{promise-kept, check-promise-kept}
 
 pub lent-once : {answer : Outcome (List ℕ)} {a b : Answer} {lent after other : List ℕ} → LentAs answer a lent after → LentAs answer b lent other → (a ≡ b) × (after ≡ other)
 lent-once p q = (p .answered ∙ sym (q .answered), p .list ∙ sym (q .list))
 
 pub lists-once : {text : List ℕ} {a b : ReadAnswer} {lent after other : Lists} → ReadFor text a lent after → ReadFor text b lent other → (a ≡ b) × (after ≡ other)
 lists-once p q = (p .answered ∙ sym (q .answered), p .lists ∙ sym (q .lists))
+
+-- the promises in plain words leave one outcome too
+pub plan-promise-once : (text lent : List ℕ) {a b : Answer} {after other : List ℕ} → PlanPromise text lent a after → PlanPromise text lent b other → (a ≡ b) × (after ≡ other)
+plan-promise-once text lent p q = lent-once (promise-kept text lent p) (promise-kept text lent q)
+
+pub check-promise-once : (j : Job) (starts lent : List ℕ) {a b : Answer} {after other : List ℕ} → CheckPromise j starts lent a after → CheckPromise j starts lent b other → (a ≡ b) × (after ≡ other)
+check-promise-once j starts lent p q = lent-once (check-promise-kept j starts lent p) (check-promise-kept j starts lent q)

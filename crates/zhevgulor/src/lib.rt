@@ -5,12 +5,13 @@ ghost use lib.ListN.{length};
 ghost use Rattle.rules.specs.Handed.{given, left};
 ghost use Rattle.rules.specs.Outcome.{is, onward};
 ghost use Rattle.rules.specs.Tables.{tables as tablesVerdict};
-ghost use Rattle.rules.specs.Answers.{planned, led, inRoom, written, answered};
+ghost use Rattle.rules.specs.Answers.{planned, led, inRoom, written};
 ghost use Rattle.job.specs.Lists.{jobIn};
 ghost use Rattle.job.specs.Told.{refusalOf};
 ghost use Rattle.job_text.specs.Told.{listsGiven, listsLeft, readingOf};
 ghost use Rattle.plan_text.specs.Told.{writtenOf};
-ghost use Rattle.zhevgulor.specs.Told.{answerFor, leadFor, readFor, LentAs, checkedIn, ReadFor};
+ghost use Rattle.zhevgulor.specs.Told.{answerFor, leadFor, readFor, LentAs, ReadFor};
+ghost use Rattle.zhevgulor.specs.Promise.{PlanPromise, CheckPromise};
 use job::Refusal;
 use job::Step;
 use job::Verdict;
@@ -129,7 +130,7 @@ pub extern "C" fn zhevgulor_check(
     starts: &[u16],
     clash: &mut [u32],
 ) -> Answer
-    ensures { λ r. ⌜ LentAs (checkedIn (jobIn nodes origins ends sources stops hops) (given starts) (length (given clash))) r (given clash) (left clash) ⌝ }
+    ensures { λ r. ⌜ CheckPromise (jobIn nodes origins ends sources stops hops) (given starts) (given clash) r (left clash) ⌝ }
 {
     let checked = planner::check(nodes, origins, ends, sources, stops, hops, starts);
     match checked {
@@ -216,7 +217,7 @@ pub extern "C" fn zhevgulor_plan_text(
 // From a job's text to its plan's text: value is the number of bytes, which stand in the first places.
 #[no_mangle]
 pub extern "C" fn zhevgulor_plan(job: &[u8], room: &mut [u8]) -> Answer
-    ensures { λ r. ⌜ LentAs (answered (given job) (length (given room))) r (given room) (left room) ⌝ }
+    ensures { λ r. ⌜ PlanPromise (given job) (given room) r (left room) ⌝ }
 {
     let text = answer::answer(job, room);
     told(text)

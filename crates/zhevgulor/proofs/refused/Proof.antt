@@ -3,14 +3,8 @@ use borrow.Author.Needs.{needs}
 use Rattle.zhevgulor.proofs.refused.Statement.{statement}
 use Rattle.zhevgulor.proofs.refused.Tie as tie
 
-number-requires : tie.Need-number-requires
-number-requires c κs = search needs
-
-place-requires : tie.Need-place-requires
-place-requires c κs = search needs
-
 returns : tie.Need-returns
 returns c = rw (c .before .number .ensures, c .place .ensures)
 
 pub refused-spec : {M : Type 1} → statement M
-refused-spec = tie.close (tie.spec number-requires place-requires returns)
+refused-spec = tie.close (tie.spec (λ c κs. search needs) (λ c κs. search needs) returns)

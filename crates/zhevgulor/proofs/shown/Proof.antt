@@ -6,14 +6,8 @@ use borrow.Author.Needs.{needs}
 use Rattle.zhevgulor.proofs.shown.Statement.{statement}
 use Rattle.zhevgulor.proofs.shown.Tie as tie
 
-refused-requires : tie.Need-refused-requires
-refused-requires c κs = search needs
-
 returns : tie.Need-returns
 returns c = four-short _ _ _ _ _ _ (omega arith) (c .refused .ensures)
-
-slice-write-clash : tie.Need-slice-write-clash
-slice-write-clash c = search needs
 
 slice-write-clash-2 : tie.Need-slice-write-clash-2
 slice-write-clash-2 c = simp length-set (omega arith)
@@ -24,12 +18,6 @@ slice-write-clash-3 c = simp length-set (omega arith)
 slice-write-clash-4 : tie.Need-slice-write-clash-4
 slice-write-clash-4 c = search needs
 
-value-requires : tie.Need-value-requires
-value-requires c κs = search needs
-
-same-length : tie.Need-same-length
-same-length c = search needs
-
 returns-2 : tie.Need-returns-2
 returns-2 c = four-written _ _ _ _ _ _ (omega arith) (c .value .ensures)
 
@@ -37,12 +25,12 @@ pub shown-spec : {M : Type 1} → statement M
 shown-spec =
     tie.close
     (tie.spec
-    refused-requires
+    (λ c κs. search needs)
     returns
-    slice-write-clash
+    (λ c. search needs)
     slice-write-clash-2
     slice-write-clash-3
     slice-write-clash-4
-    value-requires
-    same-length
+    (λ c κs. search needs)
+    (λ c. search needs)
     returns-2)

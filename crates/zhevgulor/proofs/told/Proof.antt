@@ -7,18 +7,6 @@ use borrow.Author.Needs.{needs}
 use Rattle.zhevgulor.proofs.told.Statement.{statement}
 use Rattle.zhevgulor.proofs.told.Tie as tie
 
-enum-known-text : tie.Need-enum-known-text
-enum-known-text c = search needs
-
-value-requires : tie.Need-value-requires
-value-requires c κs = search needs
-
-enum-known-text-2 : tie.Need-enum-known-text-2
-enum-known-text-2 c = search needs
-
-refused-requires : tie.Need-refused-requires
-refused-requires c κs = search needs
-
 returns : tie.Need-returns
 returns c = c .value .ensures ∙ ap {B = Answer} (λ w. answerFor (writtenOf w)) (sym (c .before .before .text .given .1))
 
@@ -28,4 +16,4 @@ returns-2 c = c .refused .ensures ∙ ap {B = Answer} (λ w. answerFor (writtenO
 pub told-spec : {M : Type 1} → statement M
 told-spec =
     tie.close
-    (tie.spec enum-known-text value-requires enum-known-text-2 refused-requires returns returns-2)
+    (tie.spec (λ c. search needs) (λ c κs. search needs) (λ c. search needs) (λ c κs. search needs) returns returns-2)

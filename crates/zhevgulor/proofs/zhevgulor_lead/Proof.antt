@@ -4,21 +4,6 @@ use borrow.Author.Needs.{needs}
 use Rattle.zhevgulor.proofs.zhevgulor_lead.Statement.{statement}
 use Rattle.zhevgulor.proofs.zhevgulor_lead.Tie as tie
 
-lead-requires : tie.Need-lead-requires
-lead-requires c κs = search needs
-
-enum-known-led : tie.Need-enum-known-led
-enum-known-led c = search needs
-
-enum-known-led-2 : tie.Need-enum-known-led-2
-enum-known-led-2 c = search needs
-
-number-requires : tie.Need-number-requires
-number-requires c κs = search needs
-
-place-requires : tie.Need-place-requires
-place-requires c κs = search needs
-
 returns : tie.Need-returns
 returns c = lead-told _ _ _ _ _ _ (c .before .before .before .lead .ensures) _ (c .before .led .given .1)
 
@@ -31,10 +16,10 @@ pub zhevgulor-lead-spec : {M : Type 1} → statement M
 zhevgulor-lead-spec =
     tie.close
     (tie.spec
-    lead-requires
-    enum-known-led
-    enum-known-led-2
-    number-requires
-    place-requires
+    (λ c κs. search needs)
+    (λ c. search needs)
+    (λ c. search needs)
+    (λ c κs. search needs)
+    (λ c κs. search needs)
     returns
     returns-2)

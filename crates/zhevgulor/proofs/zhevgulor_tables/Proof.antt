@@ -5,21 +5,6 @@ use borrow.Author.Needs.{needs}
 use Rattle.zhevgulor.proofs.zhevgulor_tables.Statement.{statement}
 use Rattle.zhevgulor.proofs.zhevgulor_tables.Tie as tie
 
-tables-requires : tie.Need-tables-requires
-tables-requires c κs = search needs
-
-enum-told : tie.Need-enum-told
-enum-told c = search needs
-
-value-requires : tie.Need-value-requires
-value-requires c κs = search needs
-
-enum-known-verdict : tie.Need-enum-known-verdict
-enum-known-verdict c = search needs
-
-refused-requires : tie.Need-refused-requires
-refused-requires c κs = search needs
-
 returns : tie.Need-returns
 returns c = c .value .ensures ∙ tables-fine _ _ (c .before .before .before .tables .ensures) 0 (c .before .enum-told .given .1)
 
@@ -30,10 +15,10 @@ pub zhevgulor-tables-spec : {M : Type 1} → statement M
 zhevgulor-tables-spec =
     tie.close
     (tie.spec
-    tables-requires
-    enum-told
-    value-requires
-    enum-known-verdict
-    refused-requires
+    (λ c κs. search needs)
+    (λ c. search needs)
+    (λ c κs. search needs)
+    (λ c. search needs)
+    (λ c κs. search needs)
     returns
     returns-2)
