@@ -120,8 +120,8 @@ def replace(where, texts, folder, pair):
     """Makes one replacement in texts, where each changed file's text is kept, and gives the line where it begins."""
     file, old, new = pair
     if file not in texts:
-        if not re.match(r'(src|specs|proofs)/', file) or '..' in file or not os.path.isfile(f'{folder}/{file}'):
-            raise Trouble(f'{where}: {file} is no file of its crate')
+        if not re.match(r'(src|specs)/', file) or '..' in file or not os.path.isfile(f'{folder}/{file}'):
+            raise Trouble(f'{where}: {file} is no file of its crate\'s src/ or specs/: a broken proof is no mistake')
         texts[file] = open(f'{folder}/{file}', encoding='utf-8').read()
     places = [found.start() for found in re.finditer(f'(?={re.escape(old)})', texts[file])]
     if not places:
@@ -205,7 +205,7 @@ def constant(one, folder):
 def theorem(name, folder):
     """The file that states a theorem of that name, outside the proofs of functions."""
     for path in sorted(glob.glob(f'{folder}/proofs/*.antt') + glob.glob(f'{folder}/specs/*.antt')):
-        if re.search(rf'^(?:pub |unfoldable |abbrev )*{re.escape(name)} :', open(path, encoding='utf-8').read(), re.M):
+        if re.search(rf'^ *(?:pub |unfoldable |abbrev )*{re.escape(name)} :', open(path, encoding='utf-8').read(), re.M):
             return os.path.relpath(path, folder)
     return None
 
@@ -248,6 +248,8 @@ def showers(found, folder):
         for other, theirs in shown.items():
             if theirs == show:
                 raise Trouble(f'{place(one)}: {other} of this group is in {name} too: each function shows one mistake')
+            if name in code and theirs[0] in code and proof_of(name, folder) and proof_of(name, folder) == proof_of(theirs[0], folder):
+                raise Trouble(f'{place(one)}: {other} of this group shows in the same proof, and neither would show by itself')
         shown[one.name] = show
     for one in found:
         for other, its in changed.items():

@@ -133,6 +133,9 @@ def run(page):
         ('a step more, with its reason', alone(FORM), {'g': FACT_ONE}, nothing, None),
         ('a reason for no step more', alone(FORM.replace('- 3 + 1', '- 2')), {}, nothing, 'no "# form:" line'),
         ('a contract beside another mistake', alone(f'{ONE}\n{CONTRACT}'), {}, nothing, 'has to stand alone'),
+        ('a broken proof', alone(ONE.replace('src/lib.rt', 'proofs/first/Proof.antt')), {}, nothing, 'a broken proof is no mistake'),
+        ('two functions with one proof', *both, lambda folder: os.rename(f'{folder}/crates/toy/proofs/first', f'{folder}/crates/toy/proofs/+first+second'),
+         'shows in the same proof'),
         ('a name twice', {'g': ONE, 'h': TWO.replace('# two', '# one')}, {}, nothing, 'toy has two mistakes of this name'),
         ('a mistake without a name', alone(ONE.replace('# one: ', '# ')), {}, nothing, 'a mistake begins with'),
     ]
