@@ -128,6 +128,52 @@ static void cube(void)
     }
 }
 
+/* Sixty ways of eleven links, which come together at the last link: packets of twelve hops that meet everybody at their end. */
+static void prefixes(int packets)
+{
+    enum { WAYS = 60, HOPS = 11, JOIN = WAYS * HOPS };
+    add("N\t%d\n", JOIN + 2);
+    for (int way = 0; way < WAYS; way++)
+        for (int hop = 0; hop < HOPS; hop++)
+            add("L\t%d\t%d\n", way * HOPS + hop, hop + 1 < HOPS ? way * HOPS + hop + 1 : JOIN);
+    add("L\t%d\t%d\n", JOIN, JOIN + 1);
+    for (int k = 0; k < packets; k++) {
+        int way = k % WAYS;
+        add("P\t%d", way * HOPS);
+        for (int hop = 0; hop < HOPS; hop++)
+            add("\t%d", way * HOPS + hop);
+        add("\t%d\n", JOIN);
+    }
+}
+
+/* Shared links in a row, and from each to the next a way straight on, of one link, and a way round, of two. Packets take by turns all
+ * the straight ways or all the ways round, so that two of different kinds differ in steps by another number at every shared link. */
+static void ladder(int packets)
+{
+    enum { SHARED = 8 };
+    int shared[SHARED], straight[SHARED], round[SHARED][2], links = 0;
+    add("N\t%d\n", 3 * SHARED);
+    for (int i = 0; i < SHARED; i++) {
+        shared[i] = links++;
+        add("L\t%d\t%d\n", 3 * i, 3 * i + 1);
+        if (i + 1 < SHARED) {
+            straight[i] = links++, round[i][0] = links++, round[i][1] = links++;
+            add("L\t%d\t%d\nL\t%d\t%d\nL\t%d\t%d\n", 3 * i + 1, 3 * i + 3, 3 * i + 1, 3 * i + 2, 3 * i + 2, 3 * i + 3);
+        }
+    }
+    for (int k = 0; k < packets; k++) {
+        add("P\t0");
+        for (int i = 0; i < SHARED; i++) {
+            add("\t%d", shared[i]);
+            if (i + 1 < SHARED && k % 2 == 0)
+                add("\t%d", straight[i]);
+            else if (i + 1 < SHARED)
+                add("\t%d\t%d", round[i][0], round[i][1]);
+        }
+        add("\n");
+    }
+}
+
 static void links_only(void)
 {
     add("N\t1024\n");
@@ -149,6 +195,10 @@ static void make(const char *name, int packets)
         row(256), along_row(packets, 255);
     else if (strcmp(name, "cube") == 0)
         cube();
+    else if (strcmp(name, "prefixes") == 0)
+        prefixes(packets);
+    else if (strcmp(name, "ladder") == 0)
+        ladder(packets);
     else
         links_only();
 }
@@ -211,13 +261,16 @@ static int by_size(const void *a, const void *b)
     return x < y ? -1 : x > y;
 }
 
-/* Microseconds of each, as medians of runs in turn. A run repeats a call until it has taken two milliseconds. */
-enum { RUNS = 15 };
+/* Microseconds of each, as medians of runs in turn. A run repeats a call until it has taken two milliseconds. Where one round of runs
+ * takes seconds there are fewer. */
+enum { RUNS = 15, ENOUGH = 20000000 };
 
 static void measure(double *median)
 {
     static double took[TIMED][RUNS];
-    for (int i = 0; i < RUNS; i++)
+    double first = now();
+    int runs = 0;
+    for (int i = 0; i < RUNS && (i < 1 || now() - first < ENOUGH); i++, runs++)
         for (int f = 0; f < TIMED; f++) {
             double begun = now();
             int times = 0;
@@ -227,8 +280,8 @@ static void measure(double *median)
             took[f][i] = (now() - begun) / times;
         }
     for (int f = 0; f < TIMED; f++) {
-        qsort(took[f], RUNS, sizeof took[f][0], by_size);
-        median[f] = took[f][RUNS / 2];
+        qsort(took[f], (size_t)runs, sizeof took[f][0], by_size);
+        median[f] = took[f][runs / 2];
     }
 }
 
@@ -253,9 +306,13 @@ enum { READ_PART, TABLES_PART, SEARCH_PART, WRITE_PART, PARTS };
 static const char *const part_name[PARTS] = { "read", "tables", "search", "write" };
 static double planner_sum[PARTS], fast_sum[PARTS];
 
+static const char *only; /* the one kind of job that is asked for, or null */
+
 static void line(const char *name, const char *shown, int packets)
 {
     double t[TIMED];
+    if (only && strcmp(only, name) != 0)
+        return;
     make(name, packets);
     make_lists();
     agree(name);
@@ -287,11 +344,12 @@ static void furthest(void)
     printf("Furthest from the limit: %s.\n", name[most]);
 }
 
-int main(void)
+int main(int words, char **word)
 {
     static const int packets[] = { 128, 256, 512, 1024 };
     char shown[100];
-    printf("Times in microseconds, medians of %d runs in turn; ratio: planner to fast.c.\n\n", RUNS);
+    only = words > 1 ? word[1] : NULL;
+    printf("Times in microseconds, medians of up to %d runs in turn; ratio: planner to fast.c.\n\n", RUNS);
     printf("| job | bytes | meetings | planner | fast.c | ratio |");
     for (int p = 0; p < PARTS; p++)
         printf(" %s |", part_name[p]);
@@ -302,6 +360,8 @@ int main(void)
     line("long paths", "64 paths of 255 hops", 64);
     line("cube", "cube of 8 dimensions, 256 packets", 256);
     line("links only", "4,096 links, no packet", 0);
+    line("prefixes", "1,024 packets of 12 hops, 60 ways to one last link", 1024);
+    line("ladder", "ladder of 8 shared links, 885 packets", 885);
     for (int i = 0; i < 4; i++) {
         sprintf(shown, "growth: mesh, %d packets", packets[i]);
         line("mesh", shown, packets[i]);
@@ -310,6 +370,7 @@ int main(void)
         sprintf(shown, "growth: one link, %d packets", packets[i]);
         line("one link", shown, packets[i]);
     }
-    furthest();
+    if (!only)
+        furthest();
     return 0;
 }
