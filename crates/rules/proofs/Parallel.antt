@@ -1,5 +1,5 @@
--- Several links may join the same two nodes, and they are separate: packets that come to them in one step from two sources, and
--- go on to two destinations, do not wait for each other.
+-- Two links from one node to another are two: packets that come to them in one step from two sources, and go on to two destinations,
+-- do not wait for each other.
 use mathlib.Core.Path.{_≡_, refl}
 use mathlib.Core.List.{[], _∷_}
 use Rattle.rules.specs.Network.{Job, pathsFrom, paths, packetsOf, packets}

@@ -4,7 +4,7 @@ use Prim.Native.Nat.{ℕ}
 use denote.Ref.{RefT, now}
 use denote.Triple.Both.{Both}
 
--- a list of numbers, in a contract; E is what is left of it at the return, where it was only read
+-- a list of numbers, in a contract; E is the type of what is known at the return: a list again where it was lent
 abbrev pub Handed : Type 0 → Type 0
 Handed E = Both (RefT (List ℕ)) E
 

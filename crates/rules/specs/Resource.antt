@@ -1,5 +1,5 @@
--- Document 01, "The network and its steps", conflict: what no two packets may take in one step. It is a link, by its number; all
--- but the claims and their meaning know it by these two names alone.
+-- Document 01, "The network and its steps", conflict: what no two packets may take in one step. It is a link, by its number. Only
+-- the claims, their meaning and the answers told to programs know that; all else has these two names.
 use mathlib.Core.Bool.{Bool}
 use Prim.Native.Nat.{ℕ}
 use lib.Dec.{eqb}

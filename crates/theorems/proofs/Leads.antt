@@ -1,5 +1,5 @@
--- The lead: its steps are those in which the packets enter the link, there is none only where one of them does not, it lies
--- from −33,021 to 33,021 and reaches both, and from the other packet's side it is the opposite.
+-- The lead: its steps are those in which the packets enter the link, there is none only where one of them does not, no lead is
+-- greater than leadMost either way and one of each sign is that great, and from the other packet's side it is the opposite.
 use mathlib.Core.Path.{_≡_, refl, sym, ap, _∙_}
 use mathlib.Core.Bool.{Bool, true, false, not, cond, false≢true}
 use mathlib.Core.List.{List, [], _∷_, _++_, List·Memᴰ}
