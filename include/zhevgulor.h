@@ -145,7 +145,7 @@ zhevgulor_answer zhevgulor_plan(const uint8_t *job, size_t job_bytes, uint8_t *r
  *     hops               as many as `hops`
  * All elements behind them are 0, to the end of each lent list.
  *
- * It refuses by 1; else by 10 if a lent list is shorter than the greatest job needs it, whatever this job needs: ZHEVGULOR_LINKS
+ * It refuses by 1; else by 10 unless each list could take the greatest job, whatever this job needs: ZHEVGULOR_LINKS
  * elements for origins and for ends, ZHEVGULOR_PACKETS for sources and for stops, ZHEVGULOR_HOPS for hops; else by 2 to 8, as
  * zhevgulor_plan does. Refused by 1 or 10, it leaves the lists as they were. Refused by any other number, it has set every element
  * of every list to 0.
