@@ -98,7 +98,7 @@ struct answer call_planner(const struct call *c, void *const *lent)
 
 /* Every list is handed over in a field of its own, between two stretches of memory that nobody may touch: flush with the one
  * behind it, flush with the one before it, or in the middle. What is free beside it holds guard bytes. */
-enum { FIELD_BYTES = 1 << 18, FENCE_BYTES = 1 << 16, GUARD_BYTES = 64, GUARD = 0xA5 };
+enum { FIELD_BYTES = 1 << 19, FENCE_BYTES = 1 << 16, GUARD_BYTES = 64, GUARD = 0xA5 };
 enum { TEXT_FIELD, ORIGINS_FIELD, ENDS_FIELD, SOURCES_FIELD, STOPS_FIELD, HOPS_FIELD, STARTS_FIELD, LENT_FIELD,
        FIELDS = LENT_FIELD + JOB_LISTS };
 

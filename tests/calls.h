@@ -18,8 +18,9 @@ struct call {
     size_t lent[JOB_LISTS]; /* places lent for the answer: the first list's, and in READ those of all five */
 };
 
-/* What came of a call: the answer, and the lent lists afterwards, one behind the other. */
-enum { LENT_BYTES = 60000 };
+/* What came of a call: the answer, and the lent lists afterwards, one behind the other. There is room for a reader's five lists
+ * with more than 65,536 places each. */
+enum { LENT_BYTES = 800000 };
 struct outcome {
     struct answer answer;
     _Alignas(uint32_t) uint8_t lent[LENT_BYTES];

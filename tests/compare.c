@@ -96,11 +96,12 @@ static int compare(void)
     section("small jobs", small_jobs, NOT_KEPT);
     section("small starts", small_starts, KEPT);
     section("wrong pairs", wrong_pairs, KEPT);
-    section("limits", limits, KEPT);
     section("rooms", rooms, KEPT);
+    section("limits", limits, KEPT);
     section("full jobs", full_jobs, NOT_KEPT);
     section("damaged texts", damaged_texts, NOT_KEPT);
     section("read and plan", read_and_plan, NOT_KEPT);
+    section("lengths of more than 32 bits", huge_lengths, NOT_KEPT);
     section("stack", stack, NOT_KEPT);
     section("wrong rules", teeth, NOT_KEPT);
     section("threads", threads, NOT_KEPT); /* late: emulated code is slower once there was a second thread */

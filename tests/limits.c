@@ -1,4 +1,5 @@
-/* limits.c: every limit, and one over it; rooms that are just enough, and one byte less. */
+/* limits.c: every limit, and one over it; what happens only close to a limit; lengths of more than 16 bits; rooms that are just
+ * enough, and one byte less. */
 #include "cases.h"
 #include "sections.h"
 
@@ -57,6 +58,15 @@ static void run_text_everywhere(size_t room)
 {
     run_text(&text, room);
     run_read(&text, -1, 0);
+}
+
+/* The job, as a text and as lists, asked of every function. The starts given are all 0. */
+static void run_job_everywhere(void)
+{
+    text_of_job(&job, &text);
+    tables_of_job(&job, &tables);
+    run_text_everywhere(ROOM);
+    run_tables_everywhere();
 }
 
 /* ---- Sizes ---- */
@@ -335,8 +345,145 @@ static void limit_starts(void)
     expect(planner.answer.refusal == 0 && planner.answer.lead == -33021, "the least lead");
 }
 
+/* ---- Close to a limit ---- */
+
+/* A rule may hold for the first hops, nodes, links or packets, and no more for the last. So each thing below happens once, and far
+ * behind all that is like it. */
+
+static void add_link(int from, int to) { job.link[job.links++] = (struct link){ from, to }; }
+
+/* Packets `first` and `second` meet on this link in step `step` if both start at 0, and nobody else meets anybody. */
+static void run_one_meeting(int first, int second, int link, int step)
+{
+    run_job_everywhere();
+    run_lead(&tables, &starts, second, first, link);
+    run_starts(&tables, tables.sources.count);
+    expect(planner.answer.refusal == 0 && lent_starts(&planner)[first] == 0 && lent_starts(&planner)[second] == 1,
+           "%s: starts", label);
+    run_check(&tables, &starts, 4);
+    const uint32_t *clash = lent_clash(&planner);
+    expect(planner.answer.value == 4 && clash[0] == (uint32_t)second && clash[1] == (uint32_t)first
+           && clash[2] == (uint32_t)link && clash[3] == (uint32_t)step, "%s: clash", label);
+}
+
+/* Two paths of 255 hops, side by side, that share the link of one hop. */
+static void far_hops(void)
+{
+    static const int shared[] = { 0, 127, 128, 199, 200, 253, 254 };
+    for (size_t i = 0; i < COUNT(shared); i++) {
+        job.nodes = 256;
+        job.links = 0;
+        job.packets = 2;
+        for (int k = 0; k < 2; k++) {
+            job.packet[k] = (struct packet){ .source = 0, .hops = 255 };
+            for (int hop = 0; hop < 255; hop++) {
+                int again = k == 1 && hop == shared[i];
+                job.packet[k].link[hop] = again ? hop : job.links;
+                if (!again)
+                    add_link(hop, hop + 1);
+            }
+        }
+        name_cases("two paths of 255 hops that share hop %d", shared[i]);
+        run_one_meeting(0, 1, shared[i], shared[i]);
+    }
+}
+
+/* A path of 255 hops, the last of which comes back to a node: from 0 the path is a ring. */
+static void far_nodes(void)
+{
+    static const int back[] = { 0, 1, 54, 55, 127, 128, 252, 253 };
+    for (int first = 0; first + 255 <= 1024; first += 769)
+        for (size_t i = 0; i < COUNT(back); i++) {
+            job.nodes = first + 255;
+            job.links = 0;
+            job.packets = 1;
+            job.packet[0] = (struct packet){ .source = first, .hops = 255 };
+            for (int hop = 0; hop < 255; hop++) {
+                job.packet[0].link[hop] = hop;
+                add_link(first + hop, first + (hop < 254 ? hop + 1 : back[i]));
+            }
+            name_cases("path from node %d whose hop 254 comes back to its node %d", first, back[i]);
+            run_job_everywhere();
+            expect(planner.answer.refusal == 8 && planner.answer.value == 0, "%s", label);
+        }
+}
+
+static void far_links(void)
+{
+    job.nodes = 2;
+    job.links = 0;
+    while (job.links < 4096)
+        add_link(0, 1);
+    job.packets = 2;
+    job.packet[0] = job.packet[1] = (struct packet){ .source = 0, .hops = 1, .link = { 4095 } };
+    name_cases("two packets on the last of 4,096 links");
+    run_one_meeting(0, 1, 4095, 0);
+}
+
+/* 1,024 packets, of which two have a hop. */
+static void far_packets(void)
+{
+    static const struct { int first, second; } pair[] = { { 0, 1023 }, { 255, 256 }, { 999, 1000 }, { 1022, 1023 } };
+    for (size_t i = 0; i < COUNT(pair); i++) {
+        job.nodes = 2;
+        job.links = 0;
+        add_link(0, 1);
+        job.packets = 1024;
+        for (int k = 0; k < 1024; k++)
+            job.packet[k] = (struct packet){ .source = 0, .hops = k == pair[i].first || k == pair[i].second };
+        name_cases("1,024 packets, %d and %d on one link", pair[i].first, pair[i].second);
+        run_one_meeting(pair[i].first, pair[i].second, 0, 0);
+    }
+}
+
+/* 1,024 starts, of which one is too late. */
+static void far_starts(void)
+{
+    static const int late[] = { 0, 255, 256, 999, 1000, 1022, 1023 };
+    clear_tables(&tables);
+    tables.nodes = 1;
+    for (int k = 0; k < 1024; k++)
+        push_path(&tables, 0, 0, 0);
+    for (size_t i = 0; i < COUNT(late); i++) {
+        zero_starts();
+        starts.value[late[i]] = 32768;
+        name_cases("1,024 starts, only %d too late", late[i]);
+        run_plan_text(&tables, &starts, ROOM);
+        run_lead(&tables, &starts, 0, 1, 0);
+        run_check(&tables, &starts, 4);
+        expect(planner.answer.refusal == 12 && planner.answer.value == (uint32_t)late[i], "%s", label);
+    }
+}
+
+/* ---- Lengths of more than 16 bits ---- */
+
+/* Each list in turn with 65,536 elements too many: the last 16 bits of its length are right. What is added is the last element
+ * again, so that the stops do not fall and end with the hops. */
+static void long_inputs(void)
+{
+    static const char *const name[] = { "origins", "ends", "sources", "stops", "hops", "starts" };
+    struct list *const list[] = { &tables.origins, &tables.ends, &tables.sources, &tables.stops, &tables.hops, &starts };
+    for (size_t i = 0; i < COUNT(list); i++) {
+        line_network(&tables, 4);
+        push_path(&tables, 0, 0, 3);
+        push_path(&tables, 0, 0, 2);
+        zero_starts();
+        for (int more = 0; more < 65536; more++)
+            push(list[i], list[i]->value[list[i]->count - 1]);
+        name_cases("65,536 %s too many", name[i]);
+        run_lists(&tables, &starts, (struct rooms){ 2, 4, ROOM });
+        expect(planner.answer.refusal == (list[i] == &starts ? 11 : 9), "%s", label);
+    }
+}
+
 void limits(void)
 {
+    far_hops();
+    far_nodes();
+    far_links();
+    far_packets();
+    far_starts();
+    long_inputs();
     limit_nodes();
     limit_links();
     limit_packets();
@@ -400,6 +547,42 @@ static void long_plans(void)
     }
 }
 
+/* Rooms of which the last 16 bits of the length would be too short. */
+static void long_rooms(void)
+{
+    show_job(&job, session_a);
+    text_of_job(&job, &text);
+    tables_of_job(&job, &tables);
+    zero_starts();
+    for (size_t places = 65536; places <= 65537; places++) {
+        name_cases("%zu places for session A", places);
+        run_text(&text, places);
+        run_starts(&tables, places);
+        run_plan_text(&tables, &starts, places);
+        run_check(&tables, &starts, places);
+        expect(planner.answer.refusal == 0 && planner.answer.value == 4, "%s", label);
+    }
+}
+
+/* The reader's lists likewise, and 3,000 places longer than their sizes. The texts are taken, refused for a line, and too long. */
+static void long_reader_lists(void)
+{
+    static const char *const shown[] = { session_a, "N 2\nL 0 1\nP 0 0\n\n", "N 2\nL 0 1\nL 1 0\nP 0 0\nP 0 0 1\n", "" };
+    for (size_t i = 0; i < COUNT(shown); i++) {
+        show_text(&text, shown[i]);
+        if (text.bytes == 0)
+            text_of_length(65536);
+        for (int list = 0; list < JOB_LISTS; list++) {
+            name_cases("lists of text %zu, list %d long", i, list);
+            run_read(&text, list, 3000);
+            run_read(&text, list, 65536 - (int)list_size[list]);
+        }
+        name_cases("lists of text %zu, all long", i);
+        run_read(&text, -1, 3000);
+        run_read(&text, -1, 70000);
+    }
+}
+
 void rooms(void)
 {
     show_job(&job, session_a);
@@ -411,6 +594,8 @@ void rooms(void)
     show_job(&job, "N 2\nL 0 1\nP 0 0\nP 0 0\nP 0 0\nP 0 0\nP 0 0\nP 0 0\nP 0 0\nP 0 0\nP 0 0\nP 0 0\nP 0 0\nP 0 0\n");
     rooms_of("twelve packets on one link");
     long_plans();
+    long_rooms();
+    long_reader_lists();
 }
 
 /* ---- The reader's lists ---- */

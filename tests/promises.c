@@ -1,5 +1,5 @@
-/* promises.c: the numbers of zhevgulor.h, and what it says of lists that were read, of threads and of the stack. What it says of
- * variables is looked up in the archive, by tests/run. */
+/* promises.c: the numbers and types of zhevgulor.h, and what it says of lists that were read, of threads and of the stack. What it
+ * says of variables is looked up in the archive, by tests/run. */
 #define _GNU_SOURCE
 #include "../include/zhevgulor.h"
 #include "cases.h"
@@ -29,6 +29,42 @@ SAME(ZHEVGULOR_LEAD, GREATEST_LEAD);
 SAME(ZHEVGULOR_PLAN_BYTES, MOST_PLAN_BYTES);
 SAME(ZHEVGULOR_CLASH, CLASH_NUMBERS);
 SAME(ZHEVGULOR_STACK_BYTES, MOST_STACK);
+
+/* ---- Types ---- */
+
+/* C fits every number of a call to the parameter it meets, so a narrow parameter would be seen in no answer to a short list. Here
+ * the types are the tests' own, to the last one. */
+#define TYPE(function, ...) _Static_assert(_Generic(&function, __VA_ARGS__: 1, default: 0), #function)
+#define LIST const uint16_t *, size_t
+#define LENT uint16_t *, size_t
+#define LISTS uint16_t, LIST, LIST, LIST, LIST, LIST
+TYPE(zhevgulor_plan, zhevgulor_answer (*)(const uint8_t *, size_t, uint8_t *, size_t));
+TYPE(zhevgulor_read, zhevgulor_read_answer (*)(const uint8_t *, size_t, LENT, LENT, LENT, LENT, LENT));
+TYPE(zhevgulor_tables, zhevgulor_answer (*)(LISTS));
+TYPE(zhevgulor_starts, zhevgulor_answer (*)(LISTS, LENT));
+TYPE(zhevgulor_check, zhevgulor_answer (*)(LISTS, LIST, uint32_t *, size_t));
+TYPE(zhevgulor_lead, zhevgulor_lead_answer (*)(LISTS, LIST, uint16_t, uint16_t, uint16_t));
+TYPE(zhevgulor_plan_text, zhevgulor_answer (*)(LISTS, LIST, uint8_t *, size_t));
+
+/* An answer is its members, one behind the other, of four bytes each. */
+#define SIZE(answer, members) _Static_assert(sizeof(answer) == 4 * (members), #answer)
+#define MEMBER(answer, member, number, type) \
+    _Static_assert(_Generic(&((answer *)0)->member, type *: 1, default: 0) && offsetof(answer, member) == 4 * (number), \
+                   #answer "." #member)
+SIZE(zhevgulor_answer, 2);
+MEMBER(zhevgulor_answer, refusal, 0, uint32_t);
+MEMBER(zhevgulor_answer, value, 1, uint32_t);
+SIZE(zhevgulor_lead_answer, 3);
+MEMBER(zhevgulor_lead_answer, refusal, 0, uint32_t);
+MEMBER(zhevgulor_lead_answer, place, 1, uint32_t);
+MEMBER(zhevgulor_lead_answer, lead, 2, int32_t);
+SIZE(zhevgulor_read_answer, 6);
+MEMBER(zhevgulor_read_answer, refusal, 0, uint32_t);
+MEMBER(zhevgulor_read_answer, value, 1, uint32_t);
+MEMBER(zhevgulor_read_answer, nodes, 2, uint32_t);
+MEMBER(zhevgulor_read_answer, links, 3, uint32_t);
+MEMBER(zhevgulor_read_answer, packets, 4, uint32_t);
+MEMBER(zhevgulor_read_answer, hops, 5, uint32_t);
 
 /* ---- Lists that were read ---- */
 

@@ -36,6 +36,9 @@ void read_and_plan(void);
 void threads(void);
 void stack(void);
 
+/* lengths.c: lengths of more than 32 bits. */
+void huge_lengths(void);
+
 /* teeth.c: what the comparison is worth. */
 void teeth(void);
 void counts(void);

@@ -18,6 +18,9 @@ static int planted(enum wrong name) { return wrong == name; }
 /* What is added to a limit that is off by one. */
 #define OFF(limit) (planted(limit##_MORE) - planted(limit##_LESS))
 
+/* A length. A wrong rule keeps only 16 bits of it. */
+static size_t length(size_t count, enum wrong cut) { return planted(cut) ? count & 65535 : count; }
+
 static struct answer fine(void) { return (struct answer){ 0 }; }
 static struct answer value(size_t number) { return (struct answer){ .value = (uint32_t)number }; }
 static struct answer refuse(int number, size_t place) { return (struct answer){ (uint32_t)number, .value = (uint32_t)place }; }
@@ -33,7 +36,7 @@ static int hop_breaks(char rule, const struct job *job, const int *node, int vis
     case '6': return link >= job->links + OFF(LINK_NUMBER);
     case '7': return !exists || job->link[link].from != node[visited - 1];
     case '8':
-        for (int i = 0; exists && i < visited; i++)
+        for (int i = planted(VISITED_200) && visited > 200 ? visited - 200 : 0; exists && i < visited; i++)
             if (node[i] == job->link[link].to)
                 return 1;
         return 0;
@@ -267,7 +270,7 @@ static struct answer read_lines(const uint8_t *text, size_t bytes, struct job *j
 }
 
 /* 1: the text is too long. */
-static int too_long(size_t bytes) { return bytes > (size_t)(MOST_BYTES + OFF(BYTES)); }
+static int too_long(size_t bytes) { return length(bytes, TEXT_16_BITS) > (size_t)(MOST_BYTES + OFF(BYTES)); }
 
 /* In the order given: 1; A, which is 10, if a lent list is too short; f, bad form anywhere; l, the lines. */
 static struct answer read_in_order(const uint8_t *text, size_t bytes, struct job *job, const char *order, int too_short)
@@ -300,14 +303,15 @@ struct answer read_job(const uint8_t *text, size_t bytes, struct job *job)
 static struct answer disagree(const struct lists *lists)
 {
     size_t last = 0;
-    if (lists->origins_count != lists->ends_count || lists->sources_count != lists->stops_count)
+    if (length(lists->origins_count, LINKS_16_BITS) != length(lists->ends_count, LINKS_16_BITS)
+        || length(lists->sources_count, PACKETS_16_BITS) != length(lists->stops_count, PACKETS_16_BITS))
         return refuse(9, 0);
     for (size_t k = 0; k < lists->stops_count; k++) {
         if (lists->stops[k] < last)
             return refuse(9, 0);
         last = lists->stops[k];
     }
-    return last != lists->hops_count ? refuse(9, 0) : fine();
+    return last != length(lists->hops_count, HOPS_16_BITS) ? refuse(9, 0) : fine();
 }
 
 /* 3: too many nodes or none, too many links, packets, or hops together. */
@@ -465,6 +469,8 @@ static int packet_met(const struct packet *packet, int hop, int start)
 {
     const struct timetable *table = &timetable[packet->link[hop]];
     int step = entry_step(start, hop);
+    if (planted(HOPS_FROM_200_FREE) && hop >= 200)
+        return -1;
     for (int i = 0; i < table->entries; i++)
         if (table->entry[i].step == step || (planted(AFTER_LAST_USE) && table->entry[i].step > step))
             if (!(planted(FIRST_SHARED_LINK) && met_further_up(packet, hop, table->entry[i].packet)))
@@ -489,7 +495,7 @@ void find_starts(const struct job *job, int *start)
     clear_timetables(job);
     for (int k = 0; k < job->packets; k++) {
         start[k] = 0;
-        while (conflicts(&job->packet[k], start[k]))
+        while (!(planted(PACKETS_FROM_1000_AT_0) && k >= 1000) && conflicts(&job->packet[k], start[k]))
             start[k]++;
         enter(job, k, start[k]);
     }
@@ -585,7 +591,7 @@ int starts_in_gaps(const struct job *job, const int *start)
  * as they were, and its length is the value. */
 static struct answer deliver(const void *found, size_t count, size_t size, void *room, size_t room_count)
 {
-    if (count + (size_t)planted(EXACT_ROOM_REFUSED) > room_count) {
+    if (count + (size_t)planted(EXACT_ROOM_REFUSED) > length(room_count, LENT_16_BITS)) {
         if (planted(REFUSAL_WRITES) && room_count > 0)
             memcpy(room, found, (room_count < count ? room_count : count) * size);
         return refuse(10, 0);
@@ -629,7 +635,7 @@ struct question {
 static struct answer late(const struct question *q)
 {
     struct answer found = fine();
-    for (size_t k = 0; k < q->starts_count; k++)
+    for (size_t k = 0; k < q->starts_count && !(planted(LATE_FROM_1000_UNSEEN) && k >= 1000); k++)
         if (q->starts[k] > LATEST_START + OFF(START) && (!found.refusal || planted(LATE_AT_HIGHEST)))
             found = refuse(12, k);
     return found;
@@ -651,7 +657,7 @@ static struct answer ask(const struct question *q, const char *order)
         struct answer found = fine();
         switch (*order) {
         case 't': found = simple_tables(q->lists); break;
-        case 'B': if (q->starts_count != q->lists->sources_count) found = refuse(11, 0); break;
+        case 'B': if (length(q->starts_count, STARTS_16_BITS) != q->lists->sources_count) found = refuse(11, 0); break;
         case 'C': found = late(q); break;
         case 'D': if (no_lead(q)) found = refuse(13, 0); break;
         case 's': if (q->a == q->b) found = refuse(13, 0); break;
@@ -682,13 +688,13 @@ static void take_starts(const uint16_t *starts)
 enum { ORIGINS, ENDS, SOURCES, STOPS, HOPS };
 const size_t list_size[JOB_LISTS] = { MOST_LINKS, MOST_LINKS, MOST_PACKETS, MOST_PACKETS, MOST_HOPS };
 
-/* Whether a lent list is shorter than its size. */
+/* 10: a list has fewer places than the largest job fills. */
 static int lists_too_short(const size_t *count)
 {
     static const enum wrong unseen[JOB_LISTS] = { READ_ORIGINS_UNSEEN, READ_ENDS_UNSEEN, READ_SOURCES_UNSEEN, READ_STOPS_UNSEEN,
                                                   READ_HOPS_UNSEEN };
     for (int i = 0; i < JOB_LISTS; i++)
-        if (count[i] < list_size[i] + (size_t)planted(READ_SIZE_REFUSED) && !planted(unseen[i]))
+        if (length(count[i], LENT_16_BITS) < list_size[i] + (size_t)planted(READ_SIZE_REFUSED) && !planted(unseen[i]))
             return 1;
     return 0;
 }
@@ -720,7 +726,9 @@ static void put_job(const struct job *job, uint16_t *const *list, const size_t *
 static void clear_lists(uint16_t *const *list, const size_t *count)
 {
     for (int i = 0; i < JOB_LISTS; i++) {
-        size_t places = planted(READ_SIZES_CLEARED) && count[i] > list_size[i] ? list_size[i] : count[i];
+        size_t most = planted(READ_SIZES_CLEARED) ? list_size[i]
+                    : planted(READ_1000_PAST_CLEARED) ? list_size[i] + 1000 : count[i];
+        size_t places = count[i] < most ? count[i] : most;
         if (places > 0)
             memset(list[i], 0, places * sizeof list[i][0]);
     }
@@ -739,8 +747,8 @@ static struct answer counts_of(const struct job *job, struct answer answer)
 
 enum { LEAST_PLAN = sizeof "T\t0\t0\t0\n" - 1 };
 
-/* The reader: 1; 10; then the lines. After 1 and 10 the lists are as they were. After any other refusal they are all zero, and
- * otherwise all zero behind the job. */
+/* The reader: 1; 10; then the lines. After 1 and 10 the lists are as they were. Any other refusal leaves nothing but zeros in them,
+ * and a job that is read has nothing but zeros behind it. */
 struct answer simple_read(const uint8_t *text, size_t bytes, uint16_t *const *list, const size_t *count)
 {
     const char *order = planted(TEXT_2_BEFORE_1) ? "lA1"

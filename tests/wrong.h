@@ -75,6 +75,19 @@ enum {
     OFF_BY_ONE(X, NODE_NUMBER, BY_ALL, "a node's number") \
     OFF_BY_ONE(X, LINK_NUMBER, BY_ALL, "a link's number") \
     X(NO_NODES, BY_ALL, "nodes: none at all passes") \
+    /* rules that hold up to some number below a limit, and then no more */ \
+    X(HOPS_FROM_200_FREE, BY_PLANNERS | BY_CHECK, "hops from 200 on never conflict") \
+    X(PACKETS_FROM_1000_AT_0, BY_PLANNERS, "packets from 1,000 on start at 0") \
+    X(VISITED_200, BY_ALL, "8 is seen only of the last 200 nodes visited") \
+    X(LATE_FROM_1000_UNSEEN, BY_GIVEN, "12 is not seen from packet 1,000 on") \
+    X(READ_1000_PAST_CLEARED, BY_READ, "reader: of the places past a list's size only 1,000 are cleared") \
+    /* lengths of which only 16 bits are looked at */ \
+    X(TEXT_16_BITS, BY_TEXT, "16 bits of a text's length") \
+    X(LINKS_16_BITS, BY_LISTS, "9: 16 bits of the numbers of origins and ends") \
+    X(PACKETS_16_BITS, BY_LISTS, "9: 16 bits of the numbers of sources and stops") \
+    X(HOPS_16_BITS, BY_LISTS, "9: 16 bits of the number of hops") \
+    X(STARTS_16_BITS, BY_GIVEN, "11: 16 bits of the number of starts") \
+    X(LENT_16_BITS, BY_LENT | BY_READ, "10: 16 bits of the places of a lent list") \
     /* bad forms that are taken */ \
     X(CARRIAGE_RETURN, BY_TEXT, "form: a carriage return before the line feed passes") \
     X(LEADING_ZERO, BY_TEXT, "form: leading zeros pass") \
