@@ -30,7 +30,7 @@ def read(words):
             job += more
         return job
     except OSError as error:
-        programs.fail('plan', f'{words[0] if words else "standard input"}: {error.strerror}')
+        programs.fail('plan', f'{ascii(words[0]) if words else "standard input"}: {error.strerror}')
 
 
 def write(text):
@@ -50,9 +50,9 @@ def main(words):
         return 0
     for word in words:
         if word.startswith('-'):
-            programs.fail('plan', f'no such option: {word} (tools/plan --help)')
+            programs.fail('plan', f'no such option: {ascii(word)} (tools/plan --help)')
     if len(words) > 1:
-        programs.fail('plan', f'one job at a time: {words[1]} is a second file (tools/plan --help)')
+        programs.fail('plan', f'one job at a time: {ascii(words[1])} is a second file (tools/plan --help)')
     job = read(words)
     told = subprocess.run(programs.command('plan'), input=job, stdout=subprocess.PIPE)
     write(told.stdout)

@@ -8,7 +8,7 @@ LINES = {b'N': 'N, the number of nodes', b'L': 'L, the node it leaves, the node 
 
 
 def visible(line):
-    marks = {9: r'\t', 13: r'\r'}
+    marks = {9: r'\t', 13: r'\r', 92: r'\\'}
     text = ''.join(marks.get(b) or (chr(b) if 32 <= b < 127 else f'\\x{b:02x}') for b in line[:100])
     return f'`{text}`' + (f' .. ({len(line)} bytes)' if len(line) > 100 else '')
 
@@ -36,20 +36,21 @@ def bad_number(line):
             return f'{visible(field)} is no number: numbers are written with digits alone'
         if len(field) > 1 and field.startswith(b'0'):
             return f'{visible(field)} has a zero in front'
-        if int(field) > NUMBER_MOST:
+        if len(field) > 5 or int(field) > NUMBER_MOST:  # python does not turn thousands of digits into a number
             return f'{visible(field)} is over 65,535, the greatest number that a field may have'
 
 
 def wrong_count(line):
     letter, count = line[:1], line.count(b'\t')
     if letter in (b'N', b'L') and count != (1 if letter == b'N' else 2) or letter == b'P' and count == 0:
-        return f'such a line has {LINES[letter]}, and no more'
+        return f'such a line has {LINES[letter]}, and nothing else'
 
 BAD_FORM = [
     (lambda n, line, last, above: n == 1 and last and not line, 'the job is empty; its first line is N, a tab and the number of nodes'),
+    (lambda n, line, last, above: line[:3] == b'\xef\xbb\xbf', 'a byte order mark; a job is plain ASCII'),
+    (lambda n, line, last, above: b'\r' in line, 'a carriage return; a line ends in a line feed alone'),
     (lambda n, line, last, above: last, 'the last line is not ended by a line feed, as every line must be'),
     (lambda n, line, last, above: not line, 'the line is empty, and a job has no empty lines'),
-    (lambda n, line, last, above: b'\r' in line, 'a carriage return; a line ends in a line feed alone'),
     (lambda n, line, last, above: line[:1] not in LINES, 'a line begins with N, L or P; there are no others, and no comments'),
     (lambda n, line, last, above: b' ' in line, 'a space; fields are parted by one tab, and there are no spaces'),
     (lambda n, line, last, above: line[:2] != line[:1] + b'\t', 'behind its letter a line has a tab and a number'),
@@ -74,10 +75,10 @@ def size(n, line, above):
     if line[:1] == b'N':
         return f'a job has 1 to {NODES:,} nodes'
     if line[:1] == b'L':
-        return f'it is link {len(above.links)}, and a job has at most {LINKS:,} links'
+        return f'there are {LINKS:,} links above it, and a job has no more'
     hops = len(numbers(line)) - 1
     if len(above.packets) >= PACKETS:
-        return f'it is packet {len(above.packets)}, and a job has at most {PACKETS:,} packets'
+        return f'there are {PACKETS:,} packets above it, and a job has no more'
     if above.hops + hops > HOPS:
         return f'with this path the job has {above.hops + hops:,} hops, and a job has at most {HOPS:,} in all'
     return f'the path has {hops} hops, and a path has at most {PATH}'
@@ -94,7 +95,7 @@ def path_trouble(n, line, above):
     reached, visited = source, [source]
     for hop, link in enumerate(path):
         if link >= len(above.links):
-            return f'hop {hop}: there is no link {link}: the job has {len(above.links)}, numbered from 0'
+            return f'hop {hop}: there is no link {link}: above this line there are {len(above.links)}, numbered from 0'
         begin, end = above.links[link]
         if begin != reached:
             return f'hop {hop}: link {link} leaves node {begin}, but the packet has come to node {reached}'
