@@ -1,2 +1,3 @@
 pub mod Sessions
 pub mod Parallel
+pub mod Readings

@@ -33,9 +33,10 @@ Holds (meets job told) = onward (reading job) (λ j. is (meetings j)) ≡ is tol
 Holds (checks job ss told) = onward (reading job) (λ j. checked j ss) ≡ is told
 Holds (leads job a b link told) = onward (reading job) (λ j. led j (greedy j) a b link) ≡ is told
 
-abbrev pub AllHold : List Session → Type 0
-AllHold [] = Unit
-AllHold (s ∷ ss) = Holds s × AllHold ss
+-- the statement holds of every row of a table
+abbrev pub AllHold : {A : Type 0} → (A → Type 0) → List A → Type 0
+AllHold P [] = Unit
+AllHold P (row ∷ rows) = P row × AllHold P rows
 
 -- job A and its plan, byte for byte
 abbrev pub jobA : List ℕ
@@ -60,19 +61,19 @@ planA =
     ∷ []
 
 -- the other jobs, by their lines
-abbrev N : ℕ → List ℕ
+abbrev pub N : ℕ → List ℕ
 N n = lineText letterN (n ∷ [])
 
-abbrev L : ℕ → ℕ → List ℕ
+abbrev pub L : ℕ → ℕ → List ℕ
 L from to = lineText letterL (from ∷ to ∷ [])
 
-abbrev P : ℕ → List ℕ → List ℕ
+abbrev pub P : ℕ → List ℕ → List ℕ
 P source path = lineText letterP (source ∷ path)
 
-abbrev S : ℕ → ℕ → ℕ → List ℕ
+abbrev pub S : ℕ → ℕ → ℕ → List ℕ
 S packet start end = lineText letterS (packet ∷ start ∷ end ∷ [])
 
-abbrev T : ℕ → ℕ → ℕ → List ℕ
+abbrev pub T : ℕ → ℕ → ℕ → List ℕ
 T time c d = lineText letterT (time ∷ c ∷ d ∷ [])
 
 abbrev linksA : List ℕ
@@ -103,7 +104,7 @@ table =
     ∷ prints (N 1 ++ P 0 []) (S 0 0 0 ++ T 0 0 0)
     ∷ []
 
-pub sessions : AllHold table
+pub sessions : AllHold Holds table
 unfolding table
     linkAt pathsFrom paths packetsOf packets delayOf travel linkVerdict walk packetVerdict linksVerdict packetsVerdict stopsAgree tables
     linkClaims claimsOf claims placed takes conflict blocked scan crossings firstFree greedyAfter greedy endOf routingTime load congestion dilation shared meetingsWith meetingsAfter meetings holder clashOf clashAfter entryStep entryAt lead

@@ -1,4 +1,5 @@
--- Document 01, "Refusals and their order", what follows on tables; and the one answer from bytes.
+-- Document 01, "Refusals and their order", what follows on tables, with the reader of plans of document 02, request 1; and the one
+-- answer from bytes.
 use mathlib.Core.List.{List, [], _∷_, _++_}
 use mathlib.Core.Option.{Option}
 use Prim.Native.Nat.{ℕ, suc}
@@ -17,6 +18,7 @@ use Rattle.rules.specs.Lead.{lead}
 use Rattle.rules.specs.Bytes.{letterR, lineText}
 use Rattle.rules.specs.JobText.{reading}
 use Rattle.rules.specs.PlanText.{planText}
+use Rattle.rules.specs.PlanBack.{readBack}
 
 -- 12 at the lowest packet, counted from k, whose start is too late
 unfoldable pub startsVerdict : ℕ → List ℕ → Verdict
@@ -51,6 +53,10 @@ led j starts a b link = startedVerdict j starts then lead (delayIn j) starts (pa
 -- the text writer, with room for so many bytes
 unfoldable pub written : Job → List ℕ → ℕ → Outcome (List ℕ)
 written j starts room = startedVerdict j starts then inRoom (planText j starts) room
+
+-- the reader of plans, with room for so many starts
+unfoldable pub planReadIn : Job → (plan : List ℕ) → ℕ → Outcome (List ℕ)
+planReadIn j plan room = onward (readBack j plan) (λ starts. inRoom starts room)
 
 -- from a job's bytes: its plan's bytes, or the refusal
 unfoldable pub answer : List ℕ → Outcome (List ℕ)

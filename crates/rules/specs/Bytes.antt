@@ -8,12 +8,15 @@ use lib.Dec.{eqb, ltb, leb}
 use Rattle.counting.specs.Count.{pick}
 use Rattle.rules.specs.Sizes.{numberMost}
 
--- the bytes with a meaning of their own; the digit d is the byte 48 + d
+-- the bytes with a meaning of their own (C and Q by document 02, request 1); the digit d is the byte 48 + d
 abbrev pub tab : ℕ
 tab = 9
 
 abbrev pub lineFeed : ℕ
 lineFeed = 10
+
+abbrev pub letterC : ℕ
+letterC = 67
 
 abbrev pub letterL : ℕ
 letterL = 76
@@ -23,6 +26,9 @@ letterN = 78
 
 abbrev pub letterP : ℕ
 letterP = 80
+
+abbrev pub letterQ : ℕ
+letterQ = 81
 
 abbrev pub letterR : ℕ
 letterR = 82

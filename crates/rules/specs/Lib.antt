@@ -15,5 +15,7 @@ pub mod Bytes
 pub mod JobText
 pub mod JobWritten
 pub mod PlanText
+pub mod PlanBack
 pub mod Answers
+pub mod CheckedTexts
 pub mod Plain

@@ -1,7 +1,7 @@
 -- Document 01, "Sizes": each limit once, by name.
 use Prim.Native.Nat.{ℕ}
 
--- the most bytes of a job's text
+-- the most bytes of a job's text, and of a plan's that is read back
 abbrev pub textMost : ℕ
 textMost = 65535
 

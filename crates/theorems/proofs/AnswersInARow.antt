@@ -19,7 +19,7 @@ use Rattle.theorems.proofs.TextJobs.{reading-job, reading-accepted}
 use Rattle.theorems.proofs.Started.{started-plan-length, greedy-started}
 
 -- an answer a after a check, where the room holds n places
-room-iff : {A : Type 0} (v : Verdict) (n room : ℕ) (a b : A) → (v then must (leb n room) 10 0 then is a ≡ is b) ↔ ((v ≡ fine) × (n ≤ room) × (b ≡ a))
+pub room-iff : {A : Type 0} (v : Verdict) (n room : ℕ) (a b : A) → (v then must (leb n room) 10 0 then is a ≡ is b) ↔ ((v ≡ fine) × (n ≤ room) × (b ≡ a))
 room-iff v n room a b =
     Iff·trans (then-iff Iff·rfl (then-iff (must-iff 10 0 (leb-iff n room)) is-iff)) (λ (f, (l, e)). (f, l, sym e), λ (f, l, e). (f, (l, sym e)))
 

@@ -26,5 +26,10 @@ pub mod TextJobs
 pub mod TextFronts
 pub mod TextWritten
 pub mod TextExact
+pub mod Refusals
 pub mod TextRefusals
 pub mod AnswersInARow
+pub mod PlanLines
+pub mod PlanBackExact
+pub mod PlanBackRefused
+pub mod CheckedTextsMean

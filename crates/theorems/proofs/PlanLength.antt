@@ -36,7 +36,7 @@ unfolding lineText fieldsText
 line-length letter a b c = simp length-append (omega arith)
 
 -- each start and each path is within its size
-abbrev StartsFit : List ℕ → Type 0
+abbrev pub StartsFit : List ℕ → Type 0
 StartsFit starts = (s : ℕ) → List·Memᴰ s starts → s ≤ startMost
 
 -- beside the digits of its packet number a line has at most 15 bytes
@@ -58,7 +58,7 @@ lines-length-le delay k m (s ∷ ss) (p ∷ ps) f g h =
       lines-length-le delay (suc k) m ss ps (λ t i. f t (there i)) (λ q i. g q (there i)) (omega arith),
     )
 
-ends-le : (delay : ℕ → ℕ) (ss : List ℕ) (ps : List (List ℕ)) → StartsFit ss → PathsFit delay ps → routingTime delay ss ps ≤ startMost + delayMost * pathMost
+pub ends-le : (delay : ℕ → ℕ) (ss : List ℕ) (ps : List (List ℕ)) → StartsFit ss → PathsFit delay ps → routingTime delay ss ps ≤ startMost + delayMost * pathMost
 unfolding endOf
 ends-le delay ss ps f g =
     routing-time-le delay ss ps (startMost + delayMost * pathMost)
@@ -71,6 +71,10 @@ load-le link ps =
 
 pub congestion-le : (j : Job) → congestion j ≤ length (paths j)
 congestion-le j = congestion-least j (length (paths j)) (λ link l. load-le link (paths j))
+
+pub dilation-le : (j : Job) → PathsFit (delayIn j) (paths j) → dilation j ≤ delayMost * pathMost
+dilation-le j g =
+    dilation-least j (delayMost * pathMost) (λ p m. let (short, delayed) = g p m in omega (arith, short, travel-le-hops (delayIn j) p delayed))
 
 pub plan-length-le : (j : Job) (starts : List ℕ) → length starts ≤ packetsMost → StartsFit starts
     → PathsFit (delayIn j) (paths j) → length (paths j) ≤ packetsMost → length (planText j starts) ≤ planMost
@@ -85,5 +89,5 @@ plan-length-le j starts m f g n =
       line-length letterT time (congestion j) (dilation j),
       decimal-length-le 4 time (omega (arith, ends-le (delayIn j) starts (paths j) f g)),
       decimal-length-le 3 (congestion j) (omega (arith, congestion-le j)),
-      decimal-length-le 2 (dilation j) (omega (arith, dilation-least j (delayMost * pathMost) (λ p m. let (short, delayed) = g p m in omega (arith, short, travel-le-hops (delayIn j) p delayed)))),
+      decimal-length-le 2 (dilation j) (omega (arith, dilation-le j g)),
     )

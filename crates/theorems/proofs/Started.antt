@@ -46,7 +46,7 @@ started-fine-iff j starts =
     (λ t. record { job = t .0; count = t .1 .0; in-time = t .1 .1 }, λ h. (h .job, (h .count, h .in-time)))
 
 -- every path of an accepted job is short enough
-paths-short : (j : Job) → IsJob j → PathsFit (delayIn j) (paths j)
+pub paths-short : (j : Job) → IsJob j → PathsFit (delayIn j) (paths j)
 paths-short j job p m = (job-path j job m .1 .short, job-delayed j job m)
 
 pub started-plan-length : (j : Job) (starts : List ℕ) → startedVerdict j starts ≡ fine → length (planText j starts) ≤ planMost

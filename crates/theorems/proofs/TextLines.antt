@@ -26,7 +26,7 @@ unfolding fieldsText
 fields-text [] = refl
 fields-text (n ∷ ns) = rw (fields-text ns, append-assoc)
 
-line-text : (letter : ℕ) (ns : List ℕ) → lineText letter ns ≡ lineBytes letter ns ++ (lineFeed ∷ [])
+pub line-text : (letter : ℕ) (ns : List ℕ) → lineText letter ns ≡ lineBytes letter ns ++ (lineFeed ∷ [])
 unfolding lineText
 line-text letter ns = rw fields-text
 
@@ -46,11 +46,11 @@ fields-free (n ∷ ns) = rw (any-append, decimal-free lineFeed (omega arith) n, 
 abbrev pub Sayable : List ℕ → Type 0
 Sayable ns = (n : ℕ) → List·Memᴰ n ns → n ≤ numberMost
 
-split-fields : (p ns : List ℕ) → among tab p ≡ false → split tab (p ++ eachAfter tab (map decimal ns)) ≡ p ∷ map decimal ns
+pub split-fields : (p ns : List ℕ) → among tab p ≡ false → split tab (p ++ eachAfter tab (map decimal ns)) ≡ p ∷ map decimal ns
 split-fields p [] h = rw append-nil (split-free tab p h)
 split-fields p (n ∷ ns) h = split-piece tab p _ h ∙ rw (split-fields (decimal n) ns (decimal-free tab (omega arith) n))
 
-numbers-said : (ns : List ℕ) → Sayable ns → numbersOf (map decimal ns) ≡ some ns
+pub numbers-said : (ns : List ℕ) → Sayable ns → numbersOf (map decimal ns) ≡ some ns
 unfolding numbersOf
 numbers-said [] h = refl
 numbers-said (n ∷ ns) h = rw (number-decimal n (h n (here refl)), numbers-said ns (λ m i. h m (there i)))
@@ -65,7 +65,7 @@ split-line letter ns bs l =
 
 -- ---- from the line to letter and numbers
 
-said-numbers : (fs : List (List ℕ)) (ns : List ℕ) → numbersOf fs ≡ some ns → fs ≡ map decimal ns
+pub said-numbers : (fs : List (List ℕ)) (ns : List ℕ) → numbersOf fs ≡ some ns → fs ≡ map decimal ns
 unfolding numbersOf
 said-numbers [] ns e = rw (← some-same e)
 said-numbers (f ∷ fs) ns e = go (numberOf f) refl (numbersOf fs) refl e (said-numbers fs)

@@ -2,10 +2,12 @@
 use mathlib.Core.Path.{_≡_, refl, sym, ap, _∙_}
 use mathlib.Core.Bool.{Bool, true, false}
 use mathlib.Core.List.{List, [], _∷_, _++_, head-eq-of-cons-eq, tail-eq-of-cons-eq, nil≢cons, cons≢nil}
-use Prim.Native.Nat.{ℕ}
+use Prim.Native.Nat.{ℕ, suc, _+_}
+use native.Mathlib.Omega.{arith}
 use lib.Dec.{eqb}
+use lib.ListN.{length}
 use borrow.Author.Tests.{eqb-true, eq-eqb}
-use Rattle.counting.specs.Count.{pick, among}
+use Rattle.counting.specs.Count.{pick, bit, among, occurs}
 use Rattle.counting.proofs.Tests.{or-false-left, or-false-right}
 use Rattle.rules.specs.Bytes.{onto, split}
 
@@ -33,6 +35,17 @@ split-first c (b ∷ bs) = go (eqb b c) (split-first c bs)
     go : (t : Bool) → HasFirst (split c bs) → HasFirst (pick t ([] ∷ split c bs) (onto b (split c bs)))
     go true r = ([], split c bs, refl)
     go false (p, ps, e) = (b ∷ p, ps, rw e)
+
+-- there is one piece more than such places
+pub split-count : (c : ℕ) (bs : List ℕ) → length (split c bs) ≡ suc (occurs c bs)
+unfolding split
+split-count c [] = refl
+split-count c (b ∷ bs) = go (eqb b c) (split c bs) (split-first c bs) (split-count c bs)
+  where
+    go : (t : Bool) (pieces : List (List ℕ)) → HasFirst pieces → length pieces ≡ suc (occurs c bs)
+        → length (pick t ([] ∷ pieces) (onto b pieces)) ≡ suc (bit t + occurs c bs)
+    go true pieces r l = omega (arith, l)
+    go false pieces (p, ps, e) l = rw e (omega (arith, l, ap length e))
 
 -- each piece after the byte
 abbrev pub eachAfter : ℕ → List (List ℕ) → List ℕ

@@ -1,6 +1,6 @@
 -- A text is refused by its own numbers only (specs/TextNumbers.antt), and the place is at most the number of its pieces between
 -- line feeds: the other numbers are about lists, rooms, starts and leads. So all that `plan` prints fits the room that always suffices.
-use mathlib.Core.Path.{_≡_, refl, sym, ap}
+use mathlib.Core.Path.{_≡_, refl, ap}
 use mathlib.Core.Bool.{Bool, true, false, not, _&&_}
 use mathlib.Core.List.{List, [], _∷_, _++_}
 use mathlib.Core.Option.{Option, none, some}
@@ -9,139 +9,116 @@ use native.Mathlib.Omega.{arith}
 use lib.Dec.{eqb, ltb, leb}
 use lib.ListN.{length, length-append}
 use borrow.Author.Tests.{leb-true, ltb-false}
-use Rattle.counting.specs.Count.{among, pick}
+use Rattle.counting.specs.Count.{bit, among}
+use Rattle.counting.proofs.Sums.{bit-le-one, sum-le, sum-const}
 use Rattle.counting.proofs.Tests.{or-right, among-none}
 use Rattle.rules.specs.Sizes.{textMost, nodesMost, linksMost, packetsMost, pathMost, hopsMost, planMost}
-use Rattle.rules.specs.Bytes.{fieldsText, lineText, onto, split, lineFeed}
+use Rattle.rules.specs.Bytes.{fieldsText, lineText, split, lineFeed}
 use Rattle.rules.specs.Network.{Network, Link, linkAt, Job}
-use Rattle.rules.specs.Outcome.{Outcome, is, refused, Verdict, must, _then_, onward}
+use Rattle.rules.specs.Outcome.{Outcome, is, refused, must, _then_}
 use Rattle.rules.specs.Tables.{linkVerdict, hop, walk, packetVerdict}
 use Rattle.rules.specs.JobText.{Line, nodes, link, packet, bad, lineOf, withLine, withLines, firstLine, allLines, reading}
 use Rattle.rules.specs.Answers.{answer, printed, plans}
 use Rattle.theorems.specs.TextNumbers.{lineNumbers, textNumbers, RefusedBy}
-use Rattle.theorems.proofs.Verdicts.{refused-not-is, refused-same}
+use Rattle.theorems.proofs.Refusals.{Refusals, value, refusal, in-turn, onwards, test-refused, By, refused-by}
 use Rattle.theorems.proofs.Numbers.{decimal-length-le}
-use Rattle.theorems.proofs.TextPieces.{split-first}
+use Rattle.theorems.proofs.TextPieces.{split-first, split-count}
 use Rattle.theorems.proofs.Started.{answer-length}
-
-module _ {A : Type 0} {numbers : List ℕ} {last : ℕ} where
-  value : {a : A} → RefusedBy numbers last (is a)
-  value = record { number = λ e. absurd (refused-not-is (sym e)); place = λ e. absurd (refused-not-is (sym e)) }
-
-  refusal : {n p : ℕ} → among n numbers ≡ true → p ≤ last → RefusedBy {A = A} numbers last (refused n p)
-  refusal l m = record {
-    number = λ e. let (s, t) = refused-same e in rw (← s) l;
-    place = λ e. let (s, t) = refused-same e in omega (arith, m, t);
-  }
-
-  in-turn : {v : Verdict} {o : Outcome A} → RefusedBy numbers last v → RefusedBy numbers last o → RefusedBy numbers last (v then o)
-  in-turn {v = is u} h k = k
-  in-turn {v = refused n p} h k = refusal (h .number refl) (h .place refl)
-
-onwards : {A B : Type 0} {numbers : List ℕ} {last : ℕ} {o : Outcome A} {f : A → Outcome B}
-    → RefusedBy numbers last o → ((a : A) → RefusedBy numbers last (f a)) → RefusedBy numbers last (onward o f)
-onwards {o = is a} h k = k a
-onwards {o = refused n p} h k = refusal (h .number refl) (h .place refl)
 
 -- ---- one line: each number that is given is one of a line's
 
 module _ {last place : ℕ} (near : place ≤ last) where
-  test : (t : Bool) (n : ℕ) → among n lineNumbers ≡ true → RefusedBy lineNumbers last (must t n place)
-  test true n l = value
-  test false n l = refusal l near
+  test : (t : Bool) (n : ℕ) → among n lineNumbers ≡ true → Refusals (By lineNumbers last) (must t n place)
+  test t n l = test-refused t n place (l, near)
 
-  link-refused : (n from to : ℕ) → RefusedBy lineNumbers last (linkVerdict n place from to)
+  link-refused : (n from to : ℕ) → Refusals (By lineNumbers last) (linkVerdict n place from to)
   unfolding linkVerdict
   link-refused n from to = in-turn (test (ltb from n) 4 refl) (in-turn (test (ltb to n) 4 refl) (test (not (eqb from to)) 5 refl))
 
-  hop-refused : (reached : ℕ) (visited : List ℕ) (l : Option Link) → RefusedBy lineNumbers last (hop place reached visited l)
-  hop-refused reached visited none = refusal refl near
+  hop-refused : (reached : ℕ) (visited : List ℕ) (l : Option Link) → Refusals (By lineNumbers last) (hop place reached visited l)
+  hop-refused reached visited none = refusal (refl, near)
   hop-refused reached visited (some l) = in-turn (test (eqb (l .from) reached) 7 refl) (in-turn (test (not (among (l .to) visited)) 8 refl) value)
 
-  walk-refused : (net : Network) (reached : ℕ) (visited path : List ℕ) → RefusedBy lineNumbers last (walk net place reached visited path)
+  walk-refused : (net : Network) (reached : ℕ) (visited path : List ℕ) → Refusals (By lineNumbers last) (walk net place reached visited path)
   unfolding walk
   walk-refused net reached visited [] = value
   walk-refused net reached visited (l ∷ ls) =
-      onwards (hop-refused reached visited (linkAt net l)) (λ node. walk-refused net node (visited ++ (node ∷ [])) ls)
+      onwards (hop-refused reached visited (linkAt net l)) (λ node e. walk-refused net node (visited ++ (node ∷ [])) ls)
 
-  packet-refused : (net : Network) (source : ℕ) (path : List ℕ) → RefusedBy lineNumbers last (packetVerdict net place source path)
+  packet-refused : (net : Network) (source : ℕ) (path : List ℕ) → Refusals (By lineNumbers last) (packetVerdict net place source path)
   unfolding packetVerdict
   packet-refused net source path =
       in-turn (test (leb (length path) pathMost) 3 refl) (in-turn (test (ltb source (net .nodes)) 4 refl) (walk-refused net source (source ∷ []) path))
 
-  line-refused : (j : Job) (l : Line) → RefusedBy lineNumbers last (withLine place j l)
+  line-refused : (j : Job) (l : Line) → Refusals (By lineNumbers last) (withLine place j l)
   unfolding withLine
-  line-refused j (nodes m) = refusal refl near
+  line-refused j (nodes m) = refusal (refl, near)
   line-refused j (link from to) =
       in-turn (test (eqb (length (j .sources)) 0) 2 refl)
       (in-turn (test (ltb (length (j .network .origins)) linksMost) 3 refl) (in-turn (link-refused (j .network .nodes) from to) value))
   line-refused j (packet source path) =
       in-turn (test (ltb (length (j .sources)) packetsMost) 3 refl)
       (in-turn (test (leb (length (j .hops) + length path) hopsMost) 3 refl) (in-turn (packet-refused (j .network) source path) value))
-  line-refused j bad = refusal refl near
+  line-refused j bad = refusal (refl, near)
 
 -- ---- all lines
 
-lines-refused : {last : ℕ} (n : ℕ) (j : Job) (p : List ℕ) (ps : List (List ℕ)) → n + length ps ≤ last → RefusedBy lineNumbers last (withLines n j p ps)
+lines-refused : {last : ℕ} (n : ℕ) (j : Job) (p : List ℕ) (ps : List (List ℕ)) → n + length ps ≤ last
+    → Refusals (By lineNumbers last) (withLines n j p ps)
 unfolding withLines
 lines-refused n j p [] l = in-turn (test (omega (arith, l)) (eqb (length p) 0) 2 refl) value
-lines-refused n j p (q ∷ ps) l = onwards (line-refused (omega (arith, l)) j (lineOf p)) (λ k. lines-refused (suc n) k q ps (omega (arith, l)))
+lines-refused n j p (q ∷ ps) l = onwards (line-refused (omega (arith, l)) j (lineOf p)) (λ k e. lines-refused (suc n) k q ps (omega (arith, l)))
 
-first-refused : {last : ℕ} (l : Line) → 1 ≤ last → RefusedBy lineNumbers last (firstLine l)
+first-refused : {last : ℕ} (l : Line) → 1 ≤ last → Refusals (By lineNumbers last) (firstLine l)
 first-refused (nodes n) h = in-turn (test h (leb 1 n && leb n nodesMost) 3 refl) value
-first-refused (link from to) h = refusal refl h
-first-refused (packet source path) h = refusal refl h
-first-refused bad h = refusal refl h
+first-refused (link from to) h = refusal (refl, h)
+first-refused (packet source path) h = refusal (refl, h)
+first-refused bad h = refusal (refl, h)
 
-all-lines-refused : {last : ℕ} (ps : List (List ℕ)) → 1 ≤ last → length ps ≤ last → RefusedBy lineNumbers last (allLines ps)
-all-lines-refused [] h l = refusal refl h
-all-lines-refused (p ∷ []) h l = refusal refl h
-all-lines-refused (p ∷ q ∷ ps) h l = onwards (first-refused (lineOf p) h) (λ j. lines-refused 2 j q ps (omega (arith, l)))
+all-lines-refused : {last : ℕ} (ps : List (List ℕ)) → 1 ≤ last → length ps ≤ last → Refusals (By lineNumbers last) (allLines ps)
+all-lines-refused [] h l = refusal (refl, h)
+all-lines-refused (p ∷ []) h l = refusal (refl, h)
+all-lines-refused (p ∷ q ∷ ps) h l = onwards (first-refused (lineOf p) h) (λ j e. lines-refused 2 j q ps (omega (arith, l)))
 
 -- the lines of a text, at one of them
 pub text-lines-refused : (text : List ℕ) → RefusedBy lineNumbers (length (split lineFeed text)) (allLines (split lineFeed text))
 text-lines-refused text =
     let (p, ps, e) = split-first lineFeed text in
-    all-lines-refused (split lineFeed text) (omega (arith, ap length e)) (omega arith)
+    refused-by (all-lines-refused (split lineFeed text) (omega (arith, ap length e)) (omega arith))
 
 -- ---- a text
 
 -- no more pieces than bytes and one
 split-length-le : (c : ℕ) (bs : List ℕ) → length (split c bs) ≤ suc (length bs)
-unfolding split
-split-length-le c [] = omega arith
-split-length-le c (b ∷ bs) = go (eqb b c) (split c bs) (split-length-le c bs)
-  where
-    go : (t : Bool) (ps : List (List ℕ)) → length ps ≤ suc (length bs) → length (pick t ([] ∷ ps) (onto b ps)) ≤ suc (suc (length bs))
-    go true ps l = omega (arith, l)
-    go false [] l = omega arith
-    go false (p ∷ ps) l = omega (arith, l)
+split-length-le c bs =
+    omega (arith, split-count c bs, sum-le (λ b. bit (eqb b c)) (λ b. 1) bs (λ b m. bit-le-one (eqb b c)), sum-const {A = ℕ} 1 bs)
 
 module _ (text : List ℕ) {last : ℕ} (least : 1 ≤ last) (near : length text ≤ textMost → length (split lineFeed text) ≤ last) where
-  answer-up-to : RefusedBy textNumbers last (answer text)
+  answer-up-to : Refusals (By textNumbers last) (answer text)
   unfolding answer reading
-  answer-up-to = onwards (go (leb (length text) textMost) refl) (λ j. value)
+  answer-up-to = onwards (go (leb (length text) textMost) refl) (λ j e. value)
     where
-      of-line : {o : Outcome Job} → RefusedBy lineNumbers last o → RefusedBy textNumbers last o
-      of-line h = record { number = λ {n} e. or-right (eqb 1 n) _ (h .number e); place = h .place }
+      of-line : {o : Outcome Job} → Refusals (By lineNumbers last) o → Refusals (By textNumbers last) o
+      of-line h = record { each = λ {n} e. (or-right (eqb 1 n) _ (h .each e .0), h .each e .1) }
 
-      go : (t : Bool) → leb (length text) textMost ≡ t → RefusedBy textNumbers last (must t 1 0 then allLines (split lineFeed text))
+      go : (t : Bool) → leb (length text) textMost ≡ t → Refusals (By textNumbers last) (must t 1 0 then allLines (split lineFeed text))
       go true e = of-line (all-lines-refused (split lineFeed text) least (near (leb-true (length text) textMost e)))
-      go false e = refusal refl (omega arith)
+      go false e = refusal (refl, omega arith)
 
 -- at 0 or at a line of the text; what follows the last line feed counts as a line, so that an empty text has one
 pub answer-refused : (text : List ℕ) → RefusedBy textNumbers (length (split lineFeed text)) (answer text)
-answer-refused text = let (p, ps, e) = split-first lineFeed text in answer-up-to text (omega (arith, ap length e)) (λ short. omega arith)
+answer-refused text = let (p, ps, e) = split-first lineFeed text in refused-by (answer-up-to text (omega (arith, ap length e)) (λ short. omega arith))
 
 -- ---- what is printed
 
-printed-length : (o : Outcome (List ℕ)) → ((plan : List ℕ) → o ≡ is plan → length plan ≤ planMost) → RefusedBy textNumbers (suc textMost) o → length (printed o) ≤ planMost
+printed-length : (o : Outcome (List ℕ)) → ((plan : List ℕ) → o ≡ is plan → length plan ≤ planMost)
+    → Refusals (By textNumbers (suc textMost)) o → length (printed o) ≤ planMost
 unfolding printed lineText fieldsText
 printed-length (is plan) h k = h plan refl
 printed-length (refused n p) h k =
-    let two : ltb 99 n ≡ false = among-none (ltb 99) textNumbers n refl (k .number refl) in
+    let two : ltb 99 n ≡ false = among-none (ltb 99) textNumbers n refl (k .each refl .0) in
     let digits = decimal-length-le 1 n (omega (arith, ltb-false 99 n two)) in
-    let line = decimal-length-le 4 p (omega (arith, k .place refl)) in
+    let line = decimal-length-le 4 p (omega (arith, k .each refl .1)) in
     simp length-append (omega (arith, digits, line))
 
 pub plans-length : (text : List ℕ) → length (plans text) ≤ planMost

@@ -3,3 +3,4 @@ pub mod Jobs
 pub mod Simple
 pub mod TextRest
 pub mod TextNumbers
+pub mod TextPairs

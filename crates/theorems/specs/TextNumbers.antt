@@ -14,6 +14,10 @@ lineNumbers = 2 ∷ 3 ∷ 4 ∷ 5 ∷ 6 ∷ 7 ∷ 8 ∷ []
 abbrev pub textNumbers : List ℕ
 textNumbers = 1 ∷ lineNumbers
 
+-- a plan's text, for a job that is accepted: its length, a line's form, how many S lines there are, a start, what does not follow
+abbrev pub planNumbers : List ℕ
+planNumbers = 1 ∷ 2 ∷ 11 ∷ 12 ∷ 14 ∷ []
+
 -- what is refused has one of the numbers, and a place up to `last`
 pub record RefusedBy {A : Type 0} (numbers : List ℕ) (last : ℕ) (o : Outcome A) : Type 0 where
   pub number : {n p : ℕ} → o ≡ refused n p → among n numbers ≡ true
