@@ -6,7 +6,7 @@ use lib.Dec.{eqb}
 use Rattle.counting.specs.Count.{pick}
 use Rattle.rules.specs.Outcome.{is, refused, Verdict as Ruled}
 use Rattle.job.specs.declared.Refusal.{Refusal}
-use Rattle.job.specs.declared.Refusal.the-variants.{TextTooLong, BadForm, Size, NoNode, SelfLink, NoLink, NotLeaving, Revisited, Disagree, ShortRoom, StartCount, LateStart, NoLead}
+use Rattle.job.specs.declared.Refusal.the-variants.{TextTooLong, BadForm, Size, NoNode, SelfLink, NoLink, NotLeaving, Revisited, Disagree, ShortRoom, StartCount, LateStart, NoLead, NotFollowing}
 use Rattle.job.specs.declared.Verdict.{Verdict}
 use Rattle.job.specs.declared.Verdict.the-variants.{Fine, Refused}
 use Rattle.job.specs.Told.{numberPlace, verdictOf}
@@ -25,7 +25,8 @@ numbered n p =
     (pick (eqb n 9) Disagree
     (pick (eqb n 10) ShortRoom
     (pick (eqb n 11) StartCount
-    (pick (eqb n 12) (LateStart p) NoLead)))))))))))
+    (pick (eqb n 12) (LateStart p)
+    (pick (eqb n 13) NoLead (NotFollowing p)))))))))))))
 
 pub numbered-refusal : (r : Refusal) → numbered (numberPlace r .0) (numberPlace r .1) ≡ r
 numbered-refusal TextTooLong = refl
@@ -41,6 +42,7 @@ numbered-refusal ShortRoom = refl
 numbered-refusal StartCount = refl
 numbered-refusal (LateStart p) = refl
 numbered-refusal NoLead = refl
+numbered-refusal (NotFollowing p) = refl
 
 -- the verdict that the rules' verdict is told as
 abbrev told : Ruled → Verdict

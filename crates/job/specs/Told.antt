@@ -1,12 +1,12 @@
--- What the answers of the code mean: document 01's number and place for each refusal.
+-- What the answers of the code mean: the papers' number and place for each refusal.
 use Prim.Native.Nat.{ℕ}
 use Rattle.rules.specs.Outcome.{Outcome, is, refused, Verdict as Ruled}
 use Rattle.job.specs.declared.Refusal.{Refusal}
-use Rattle.job.specs.declared.Refusal.the-variants.{TextTooLong, BadForm, Size, NoNode, SelfLink, NoLink, NotLeaving, Revisited, Disagree, ShortRoom, StartCount, LateStart, NoLead}
+use Rattle.job.specs.declared.Refusal.the-variants.{TextTooLong, BadForm, Size, NoNode, SelfLink, NoLink, NotLeaving, Revisited, Disagree, ShortRoom, StartCount, LateStart, NoLead, NotFollowing}
 use Rattle.job.specs.declared.Verdict.{Verdict}
 use Rattle.job.specs.declared.Verdict.the-variants.{Fine, Refused}
 
--- number and place of each, as in the table of document 01, "Refusals and their order"
+-- number and place of each, as in the table of document 01, "Refusals and their order", and in request 1 of document 02
 abbrev pub numberPlace : Refusal → ℕ × ℕ
 numberPlace TextTooLong = (1, 0)
 numberPlace (BadForm line) = (2, line)
@@ -19,8 +19,9 @@ numberPlace (Revisited place) = (8, place)
 numberPlace Disagree = (9, 0)
 numberPlace ShortRoom = (10, 0)
 numberPlace StartCount = (11, 0)
-numberPlace (LateStart packet) = (12, packet)
+numberPlace (LateStart place) = (12, place)
 numberPlace NoLead = (13, 0)
+numberPlace (NotFollowing line) = (14, line)
 
 abbrev pub refusalOf : {A : Type 0} → Refusal → Outcome A
 refusalOf r = refused (numberPlace r .0) (numberPlace r .1)

@@ -32,7 +32,7 @@ impl Job {
     pub const PATH: usize = 255;
     // hops of all paths together
     pub const HOPS: usize = 16384;
-    // bytes of a job's text
+    // bytes of a job's text, and of a plan's that is read back
     pub const TEXT: usize = 65535;
     // the latest start that may be handed in
     pub const START: u16 = 32767;
@@ -111,10 +111,11 @@ pub enum Refusal {
     StartCount,
     LateStart(u32),
     NoLead,
+    NotFollowing(u32),
 }
 
 impl Refusal {
-    // The number that document 01 gives it.
+    // The number that the papers give it: document 01, and document 02 for those of its requests.
     pub fn number(self) -> u32
         ensures { λ r. ⌜ r ≡ numberPlace self .0 ⌝ }
     {
@@ -132,6 +133,7 @@ impl Refusal {
             Refusal::StartCount => 11,
             Refusal::LateStart(_) => 12,
             Refusal::NoLead => 13,
+            Refusal::NotFollowing(_) => 14,
         }
     }
 
@@ -146,7 +148,8 @@ impl Refusal {
             Refusal::NoLink(place) => place,
             Refusal::NotLeaving(place) => place,
             Refusal::Revisited(place) => place,
-            Refusal::LateStart(packet) => packet,
+            Refusal::LateStart(place) => place,
+            Refusal::NotFollowing(line) => line,
             Refusal::TextTooLong => 0,
             Refusal::Disagree => 0,
             Refusal::ShortRoom => 0,

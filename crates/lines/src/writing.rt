@@ -63,3 +63,16 @@ pub fn line_of_three(room: &mut [u8], at: u32, letter: u8, a: u32, b: u32, c: u3
     let last = field(room, third, c);
     byte(room, last, b'\n')
 }
+
+// Writes a line of a letter and four numbers.
+pub fn line_of_four(room: &mut [u8], at: u32, letter: u8, a: u32, b: u32, c: u32, d: u32) -> usize
+    ensures { λ r. ⌜ Put (given room) at (lineText letter (a ∷ b ∷ c ∷ d ∷ [])) (left room) r ⌝ }
+    ensures near { λ r. ⌜ r ≤ at + longestLine 4 ⌝ }
+{
+    let first = byte(room, at as usize, letter);
+    let second = field(room, first, a);
+    let third = field(room, second, b);
+    let fourth = field(room, third, c);
+    let last = field(room, fourth, d);
+    byte(room, last, b'\n')
+}
