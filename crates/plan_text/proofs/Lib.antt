@@ -2,4 +2,12 @@ pub mod Stops
 pub mod PacketLoops
 pub mod Loads
 pub mod WritingPlans
+pub mod LineOfThree
+pub mod RowsLeft
+pub mod LinesTold
+pub mod Following
+pub mod Finding
+pub mod ReadingBack
+pub mod Obeys
 pub mod OneAnswer
+pub mod Walks

@@ -19,10 +19,10 @@ use Rattle.lines.proofs.Putting.{put-rest}
 use Rattle.plan_text.specs.HopsInLists.{hopCount, StopsOf}
 
 module _ {paths : List (List ℕ)} {stops : List ℕ} (of : StopsOf paths stops) (k : ℕ) where
-  paths-on : k < length stops → drop k paths ≡ getD paths k [] ∷ drop (k + 1) paths
+  pub paths-on : k < length stops → drop k paths ≡ getD paths k [] ∷ drop (k + 1) paths
   paths-on h = rw (add-one k, drop-cons paths k [] (omega (arith, of .count)))
 
-  paths-done : length stops ≤ k → drop k paths ≡ []
+  pub paths-done : length stops ≤ k → drop k paths ≡ []
   paths-done h = drop-of-length-le paths {i = k} (omega (arith, of .count))
 
 -- ---- D

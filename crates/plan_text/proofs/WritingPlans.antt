@@ -16,7 +16,7 @@ use Rattle.rules.specs.Counts.{routingTime, linkCount}
 use Rattle.rules.specs.Bytes.{letterT, lineText}
 use Rattle.rules.specs.PlanText.{packetLines, planText}
 use Rattle.rules.specs.Answers.{startedVerdict, inRoom, lentAfter, written}
-use Rattle.theorems.specs.Jobs.{IsStarted}
+use Rattle.theorems.specs.Jobs.{IsJob, IsStarted}
 use Rattle.theorems.proofs.OneStep.{dilation-hops}
 use Rattle.theorems.proofs.Started.{started-fine-iff}
 use Rattle.job.specs.declared.Refusal.{Refusal}
@@ -45,6 +45,17 @@ module _ {j : Job} {links : ℕ} {stops hops : List ℕ} (of : ListsOf j links s
   unfolding planText delayOf
   text-put starts p t c d q = put-then p (rw (t, c, ← of .links-same, ← of .hops-same, job-congestion j (of .job), d, ← dilation-hops j) at q)
 
+-- ---- the lists of a job
+
+pub lists-writable : {j : Job} {starts : List ℕ} → IsJob j → length starts ≡ length (j .stops) → Writable (linkCount j) (j .stops) (j .hops) starts
+lists-writable {j} job count = record {
+  rising = record { rise = job .stops-fit .rise };
+  linked = job-linked j job;
+  links-most = job .links-most;
+  packets-most = omega (arith, job .stops-count, job .packets-most);
+  count = count;
+}
+
 -- ---- the ways out
 
 module _ (j : Job) (starts : List ℕ) (told : Verdict) (same : verdictOf told ≡ startedVerdict j starts) where
@@ -61,15 +72,7 @@ module _ (j : Job) (starts : List ℕ) (told : Verdict) (same : verdictOf told �
     started = started-fine-iff j starts .0 (sym same ∙ ap verdictOf e)
 
     pub fine-listed : Writable (linkCount j) (j .stops) (j .hops) starts
-    fine-listed =
-        let job = started .job in
-        record {
-          rising = record { rise = job .stops-fit .rise };
-          linked = job-linked j job;
-          links-most = job .links-most;
-          packets-most = omega (arith, job .stops-count, job .packets-most);
-          count = started .count ∙ sym (job .stops-count);
-        }
+    fine-listed = lists-writable (started .job) (started .count ∙ sym (started .job .stops-count))
 
     pub fine-lists : ListsOf j (linkCount j) (j .stops) (j .hops)
     fine-lists = record { job = started .job; links-same = refl; stops-same = refl; hops-same = refl }

@@ -1,4 +1,4 @@
--- Packets in lists: what the writer's own functions need of the lists, and what the stops say of the paths.
+-- Packets in lists: what the writer's and the reader's own functions need of the lists, and what the stops say of the paths.
 use mathlib.Core.Path.{_≡_}
 use mathlib.Core.List.{List, [], _∷_}
 use Prim.Native.Nat.{ℕ, _-_, _≤_, _<_}
@@ -41,6 +41,10 @@ pub record ListsOf (j : Job) (links : ℕ) (stops hops : List ℕ) : Type 0 wher
   pub links-same : linkCount j ≡ links
   pub stops-same : j .stops ≡ stops
   pub hops-same : j .hops ≡ hops
+
+-- there is such a job
+abbrev pub OfAJob : (links : ℕ) (stops hops : List ℕ) → Type 0
+OfAJob links stops hops = (j : Job) × ListsOf j links stops hops
 
 -- how often the link that is met most often, of so many, is among the hops
 unfoldable pub mostOften : (links : ℕ) (hops : List ℕ) → ℕ

@@ -1,2 +1,3 @@
 pub mod HopsInLists
+pub mod PlanLines
 pub mod Told

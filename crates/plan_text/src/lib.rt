@@ -1,4 +1,4 @@
-// The text of a plan: a job as lists and starts for its packets, written into bytes that the caller lends.
+// The text of a plan: a job as lists and starts for its packets, written into bytes that the caller lends, and read back (reading.rt).
 ghost use mathlib.Core.Path.{_≡_};
 ghost use mathlib.Core.List.{List};
 ghost use Prim.Native.Nat.{ℕ, _+_, _*_, _≤_, _<_, max};
@@ -22,6 +22,8 @@ use job::Step;
 use job::Verdict;
 use job::wide;
 use lines::writing;
+
+pub mod reading;
 
 fn greater(a: u32, b: u32) -> u32
     ensures { λ r. ⌜ r ≡ max a b ⌝ }
