@@ -28,6 +28,12 @@ pub printed-fits : {text lent after : List ℕ} {count : ℕ} → PrintedAs text
 unfolding lentAfter
 printed-fits {text} {lent} p = rw (p .room) (omega (arith, p .bytes, length-append text (drop (length text) lent)))
 
+-- a text that is written from the first place on, in a room that it fits
+pub put-printed : {text lent after : List ℕ} {next : ℕ} → Put lent 0 text after next → length text ≤ length lent → PrintedAs text next lent after
+unfolding lentAfter
+put-printed {text} {lent} put fits =
+    record { bytes = put .past ∙ zero-add _; room = put .stored ∙ sets-eq text lent 0 (omega (arith, fits)) ∙ rw zero-add }
+
 module _ (text room : List ℕ) (fits : planMost ≤ length room) {told : Written} {after : List ℕ} (a : WrittenAs (answered text (length room)) told room after) where
   -- 10 is never the answer
   same-answer : answered text (length room) ≡ answer text
@@ -55,8 +61,4 @@ module _ (text room : List ℕ) (fits : planMost ≤ length room) {told : Writte
       go (is plan) short w = absurd (refused-not-is (w .bytes))
       go (refused k l) short w =
           let (nk, pl) = refused-same (w .bytes) in
-          let line = rw (n ∙ nk, p ∙ pl, w .room) at put in
-          record {
-            bytes = line .past ∙ zero-add _;
-            room = line .stored ∙ sets-eq (lineText letterR (k ∷ l ∷ [])) room 0 (omega (arith, short, fits)) ∙ rw zero-add;
-          }
+          put-printed (rw (n ∙ nk, p ∙ pl, w .room) at put) (omega (arith, short, fits))

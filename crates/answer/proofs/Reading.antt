@@ -32,7 +32,7 @@ use Rattle.plan_text.specs.declared.Written.the-variants.{Refused as TextRefuse
 use Rattle.plan_text.specs.Told.{WrittenAs}
 
 -- lists that have their sizes are never refused
-read-in : (text : List ℕ) (lent : Lists) → roomy lent ≡ true → readIn text lent ≡ reading text
+pub read-in : (text : List ℕ) (lent : Lists) → roomy lent ≡ true → readIn text lent ≡ reading text
 unfolding readIn reading
 read-in text lent h = rw h (go (leb (length text) textMost) (allLines (split lineFeed text)))
   where

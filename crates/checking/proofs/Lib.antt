@@ -1,0 +1,4 @@
+pub mod InTurn
+pub mod BothTexts
+pub mod Printing
+pub mod OneAnswer
