@@ -14,13 +14,13 @@
  * first link of its path in step s, the second in step s + 1, and so on; its end is s plus the number of its hops.
  *
  * ANSWERS. Every function answers every input. If the member `refusal` of an answer is 0, the input was taken, and the function's
- * comment says what the other member holds. Otherwise `refusal` is a number from this table, and the place stands in `value`, or
- * in `place` where the answer is a lead.
+ * comment says what the other members hold. Otherwise `refusal` is a number from this table, and the place stands in `value`, or
+ * in `place` where the answer is a lead. Where two texts are handed over, the member `text` says which of them is refused.
  *
  *   no. | what is wrong                                                     | place in a text | place in lists
  *   ----+-------------------------------------------------------------------+-----------------+-----------------------
  *    1  | the text has more than ZHEVGULOR_TEXT_BYTES bytes                 | 0               |
- *    2  | a line is not written as the lines of a job are                   | the line        |
+ *    2  | a line is not written as the lines of a job, or of a plan, are    | the line        |
  *    3  | no node at all, or more of something than the macros below allow  | the line        | the packet, if its own
  *       |                                                                   |                 | path is too long; or 0
  *    4  | a node that does not exist                                        | the line        | the link or the packet
@@ -30,23 +30,32 @@
  *    8  | a path comes back to a node                                       | the line        | the packet
  *    9  | the lists do not fit together                                     |                 | 0
  *   10  | a list lent for the answer is too short                           | 0               | 0
- *   11  | there are more starts than packets, or fewer                      |                 | 0
- *   12  | a start is over ZHEVGULOR_LATEST_START                            |                 | the first such packet
+ *   11  | there are more starts than packets, or fewer                      | 0               | 0
+ *   12  | a start is over ZHEVGULOR_LATEST_START                            | the line        | the first such packet
  *   13  | a lead of a packet over itself, of a packet that does not exist,  |                 | 0
  *       | or on a link that is not on both paths                            |                 |
+ *   14  | a plan's line does not follow from its starts                     | the line        |
  *
- * If several things are wrong, one is told. In a text: 1; else the first line with trouble, and on it the lowest number, but of 6,
- * 7 and 8 the one at the earliest hop. In lists: 9; else 3 with place 0; else the first link with trouble, 4 before 5; else the
- * first packet with trouble, 3 before 4 before its hops, and these as in a text. Only then 11, then 12, then 13; and 10 after
- * everything else, but in zhevgulor_read after 1 and before the lines.
+ * If several things are wrong, one is told. In a job's text: 1; else the first line with trouble, and on it the lowest number, but
+ * of 6, 7 and 8 the one at the earliest hop. In lists: 9; else 3 with place 0; else the first link with trouble, 4 before 5; else
+ * the first packet with trouble, 3 before 4 before its hops, and these as in a text. Only then 11, then 12, then 13; and 10 after
+ * everything else, but in zhevgulor_read after 1 and before the lines. A plan's text is looked at after its job, and before 10:
+ *   1;
+ *   else 2, of the lines from the top up to the first that does not begin with S: at the first that is not an S line of a plan, is
+ *     not ended by a line feed, or does not name the packet whose turn it is, which is packet 0 on line 1;
+ *   else 11, if they are not as many as the packets;
+ *   else 2 at the line below them, if that is not a T line, is not ended by a line feed, or is not there;
+ *   else 2 at the line below the T line, if anything stands there;
+ *   else the first line with trouble, and on it the lower number: 12, or 14 for an end that is not the start and the packet's hops
+ *     together, or for a routing time, C or D that is not that of the job with these starts.
  *
  * LENT LISTS. A list is a pointer and the number of its elements. The lists that an answer is written to are lent by the caller.
  * zhevgulor_read has five of them, and its comment says what becomes of them. All other functions have one at most: a refusal
  * leaves it as it was; otherwise the answer is put in its first elements and the rest stays as it was: a plan has no closing zero
  * byte. A lent list may be longer than needed; ZHEVGULOR_PLAN_BYTES bytes, ZHEVGULOR_PACKETS starts and ZHEVGULOR_CLASH numbers are
  * enough for every answer. All other lists are only read, and each has exactly the job's elements: of the starts that
- * zhevgulor_starts wrote, as many are handed on as there are packets, and of the lists that zhevgulor_read wrote, as many elements
- * as it counted.
+ * zhevgulor_starts or zhevgulor_read_plan wrote, as many are handed on as there are packets, and of the lists that zhevgulor_read
+ * wrote, as many elements as it counted.
  *
  * NUMBERS. Nodes, links, packets and starts are 16 bits wide. C cuts a wider number that is handed over to 16 bits before the
  * function sees it, and gcc says so with -Wconversion.
@@ -60,8 +69,9 @@
  * inputs, as long as nobody writes to the lists of a call while it runs.
  *
  * STACK. All working space is on the caller's stack. Measured over the calls of the tests, with the frame of the calling function,
- * zhevgulor_plan took up to 64,456 bytes, zhevgulor_plan_text up to 9,208 and the others less than 700. tests/run measures anew
- * and fails if a call takes more than ZHEVGULOR_STACK_BYTES, which leaves room above that.
+ * zhevgulor_check_texts took up to 68,400 bytes, zhevgulor_plan up to 64,456, zhevgulor_read_plan up to 13,056, zhevgulor_plan_text
+ * up to 9,208, and the others less than 700. tests/run measures anew and fails if a call takes more than ZHEVGULOR_STACK_BYTES,
+ * which leaves room above that.
  */
 #ifndef ZHEVGULOR_H
 #define ZHEVGULOR_H
@@ -74,7 +84,7 @@ extern "C" {
 #endif
 
 /* The most of each thing that a job may have. It has at least one node; of links, packets and hops it may have none. */
-#define ZHEVGULOR_TEXT_BYTES   65535 /* bytes of its text */
+#define ZHEVGULOR_TEXT_BYTES   65535 /* bytes of its text, and of a plan's */
 #define ZHEVGULOR_NODES        1024
 #define ZHEVGULOR_LINKS        4096  /* each one-way */
 #define ZHEVGULOR_PACKETS      1024
@@ -91,6 +101,10 @@ extern "C" {
 #define ZHEVGULOR_PLAN_BYTES   19473 /* bytes for a plan */
 #define ZHEVGULOR_CLASH        4     /* numbers for a clash */
 #define ZHEVGULOR_STACK_BYTES  98304 /* bytes of stack */
+
+/* Which of two texts is refused. */
+#define ZHEVGULOR_JOB          1
+#define ZHEVGULOR_PLAN         2
 
 /* See ANSWERS. */
 typedef struct {
@@ -113,6 +127,12 @@ typedef struct {
     uint32_t hops;
 } zhevgulor_read_answer;
 
+typedef struct {
+    uint32_t text; /* ZHEVGULOR_JOB or ZHEVGULOR_PLAN if that text is refused, otherwise 0 */
+    uint32_t refusal;
+    uint32_t value;
+} zhevgulor_texts_answer;
+
 /* From a job's text to its plan's text. On success `value` is the number of bytes written to `room`. It refuses by 1 to 8, or by 10.
  *
  * The job, with one tab between two fields and one line feed after every line, the last one too:
@@ -126,6 +146,26 @@ typedef struct {
  *     T  routing time  C  D                  the greatest end, the most packets on one link, the hops of the longest path
  */
 zhevgulor_answer zhevgulor_plan(const uint8_t *job, size_t job_bytes, uint8_t *room, size_t room_bytes);
+
+/* Does a plan, whoever wrote it, keep all packets of its job apart? Both come as texts, written as zhevgulor_plan has them. On
+ * success `text` is 0, and `value` is 0 or ZHEVGULOR_CLASH, with the clash in `clash`, as zhevgulor_check has them.
+ *
+ * It refuses by 1 to 8 with `text` ZHEVGULOR_JOB, as zhevgulor_plan does; else by 1, 2, 11, 12 or 14 with `text` ZHEVGULOR_PLAN;
+ * else, exactly if there is a clash and `clash` has fewer than ZHEVGULOR_CLASH elements, by 10 with `text` 0.
+ *
+ *     uint32_t clash[ZHEVGULOR_CLASH];
+ *     zhevgulor_texts_answer told = zhevgulor_check_texts(job, job_bytes, plan, plan_bytes, clash, ZHEVGULOR_CLASH);
+ *     if (told.refusal != 0)
+ *         printf("%s: refusal %u at %u\n", told.text == ZHEVGULOR_JOB ? "job" : "plan", (unsigned)told.refusal,
+ *             (unsigned)told.value);
+ *     else if (told.value == 0)
+ *         printf("clear\n");
+ *     else
+ *         printf("packet %u meets packet %u on link %u in step %u\n", (unsigned)clash[0], (unsigned)clash[1],
+ *             (unsigned)clash[2], (unsigned)clash[3]);
+ */
+zhevgulor_texts_answer zhevgulor_check_texts(const uint8_t *job, size_t job_bytes, const uint8_t *plan, size_t plan_bytes,
+                                             uint32_t *clash, size_t clash_count);
 
 /* A job as lists. Link i goes from node origins[i] to node ends[i]. Packet k sets out at node sources[k]; the links of its path
  * stand in `hops` from where the path of packet k - 1 stops (from 0 for packet 0) up to, not including, position stops[k].
@@ -189,6 +229,22 @@ zhevgulor_lead_answer zhevgulor_lead(ZHEVGULOR_LISTS, const uint16_t *starts, si
  * is the number of bytes written to `room`. */
 zhevgulor_answer zhevgulor_plan_text(ZHEVGULOR_LISTS, const uint16_t *starts, size_t starts_count,
                                      uint8_t *room, size_t room_bytes);
+
+/* The starts that a plan's text says, whoever wrote it and whether or not packets clash under them. On success `value` is the number
+ * of packets, and starts[k] is the start of packet k, at most ZHEVGULOR_LATEST_START. After the refusals of the lists it refuses by
+ * 1, 2, 11, 12 or 14, with the place in the plan's text, and at last by 10.
+ *
+ * With lists that are a job and room for all starts, a plan is taken exactly if zhevgulor_plan_text writes it, byte for byte, for
+ * some starts, and these are told. With the lists that zhevgulor_read wrote, as above:
+ *
+ *     answer = zhevgulor_read_plan((uint16_t)j.nodes, origins, j.links, ends, j.links, sources, j.packets, stops, j.packets,
+ *         hops, j.hops, plan, plan_bytes, starts, ZHEVGULOR_PACKETS);
+ *     if (answer.refusal == 0)
+ *         answer = zhevgulor_check((uint16_t)j.nodes, origins, j.links, ends, j.links, sources, j.packets, stops, j.packets,
+ *             hops, j.hops, starts, j.packets, clash, ZHEVGULOR_CLASH);
+ */
+zhevgulor_answer zhevgulor_read_plan(ZHEVGULOR_LISTS, const uint8_t *plan, size_t plan_bytes,
+                                     uint16_t *starts, size_t starts_count);
 
 #undef ZHEVGULOR_LISTS
 

@@ -31,10 +31,10 @@ use Rattle.zhevgulor.specs.Promise.{Says, StartsIn, Unmoved, UnmovedText
 
 -- ---- from a job's text to its plan's text
 
-says-reading : (text : List ℕ) (j : Job) → Says text j → reading text ≡ is j
+pub says-reading : (text : List ℕ) (j : Job) → Says text j → reading text ≡ is j
 says-reading text j s = reading-iff text j .1 (s .job, s .its-text, s .short)
 
-reading-says : (text : List ℕ) (j : Job) → reading text ≡ is j → Says text j
+pub reading-says : (text : List ℕ) (j : Job) → reading text ≡ is j → Says text j
 reading-says text j e = let (job, same, short) = reading-iff text j .0 e in record { job = job; its-text = same; short = short }
 
 -- the packets of the first lines have, in a text that goes on, the starts that they have alone
@@ -134,7 +134,7 @@ module _ (j : Job) (starts lent : List ℕ) where
   check-promised w = promised (checked j starts) refl w
 
   -- what is shown is what is found
-  shown-found : {k e link step : ℕ} → IsStarted j starts → ShownOf j starts k e link step
+  pub shown-found : {k e link step : ℕ} → IsStarted j starts → ShownOf j starts k e link step
       → checked j starts ≡ is (some (record { later = k; earlier = e; resource = link; step = step }))
   shown-found {k} {e} {link} {step} s shown = go (checked j starts) refl
     where

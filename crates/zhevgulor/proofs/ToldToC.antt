@@ -14,7 +14,8 @@ use borrow.Author.Tests.{le-leb, lt-leb}
 use Rattle.rules.specs.Network.{Job}
 use Rattle.rules.specs.Outcome.{Outcome, is, refused, fine, onward, Verdict as Ruled}
 use Rattle.rules.specs.Tables.{tables}
-use Rattle.rules.specs.Answers.{inRoom, lentAfter, planned, checked, led}
+use Rattle.rules.specs.Answers.{inRoom, lentAfter, planned, checked, led, planReadIn}
+use Rattle.rules.specs.CheckedTexts.{TextsChecked}
 use Rattle.rules.specs.Sizes.{packetsMost, leadMost}
 use Rattle.rules.specs.Greedy.{greedy}
 use Rattle.theorems.proofs.Verdicts.{refused-not-is, refused-for}
@@ -22,7 +23,7 @@ use Rattle.theorems.proofs.Accepted.{tables-fine-iff}
 use Rattle.theorems.proofs.Demands.{starts-count}
 use Rattle.theorems.proofs.Started.{led-in-range}
 use Rattle.job.specs.declared.Refusal.{Refusal}
-use Rattle.job.specs.declared.Refusal.the-variants.{TextTooLong, BadForm, Size, NoNode, SelfLink, NoLink, NotLeaving, Revisited, Disagree, ShortRoom, StartCount, LateStart, NoLead}
+use Rattle.job.specs.declared.Refusal.the-variants.{TextTooLong, BadForm, Size, NoNode, SelfLink, NoLink, NotLeaving, Revisited, Disagree, ShortRoom, StartCount, LateStart, NoLead, NotFollowing}
 use Rattle.job.specs.declared.Verdict.{Verdict}
 use Rattle.job.specs.declared.Verdict.the-variants.{Fine, Refused}
 use Rattle.job.specs.Told.{numberPlace, refusalOf, verdictOf}
@@ -36,10 +37,14 @@ use Rattle.planner.proofs.Obeys.{planned-greedy}
 use Rattle.job_text.specs.declared.Reading.{Reading}
 use Rattle.job_text.specs.Told.{Lists, readIn, readingOf, ReadAs}
 use Rattle.plan_text.specs.declared.Written.{Written}
-use Rattle.plan_text.specs.Told.{writtenOf, WrittenAs}
+use Rattle.plan_text.specs.Told.{writtenOf, WrittenAs, ReadBackAs}
+use Rattle.plan_text.proofs.Obeys.{read-starts}
+use Rattle.checking.specs.declared.Texts.{Texts}
+use Rattle.checking.specs.Told.{textsOf}
 use Rattle.zhevgulor.specs.declared.Answer.{Answer}
 use Rattle.zhevgulor.specs.declared.ReadAnswer.{ReadAnswer}
-use Rattle.zhevgulor.specs.Told.{answerFor, leadFor, readFor, LentAs, checkedIn, ReadFor}
+use Rattle.zhevgulor.specs.declared.TextsAnswer.{TextsAnswer}
+use Rattle.zhevgulor.specs.Told.{answerFor, leadFor, readFor, LentAs, checkedIn, ReadFor, aboutText, refusedText, clashIn, TextsFor}
 
 -- no refusal has the number 0, which stands for a value: so a C program can tell them apart
 pub number-not-zero : (r : Refusal) → eqb (numberPlace r .0) 0 ≡ false
@@ -56,6 +61,7 @@ number-not-zero ShortRoom = refl
 number-not-zero StartCount = refl
 number-not-zero (LateStart p) = refl
 number-not-zero NoLead = refl
+number-not-zero (NotFollowing p) = refl
 
 -- ---- verdicts
 
@@ -67,6 +73,14 @@ module _ (v : Verdict) (o : Ruled) (same : verdictOf v ≡ o) (n : ℕ) where
   tables-refused r e = rw (← same, e)
 
 -- ---- answers in a lent list
+
+module _ (answer : Outcome (List ℕ)) (v : Verdict) (lent after : List ℕ) (same : verdictOf v ≡ onward answer (λ a. fine)) (list : after ≡ lentAfter answer lent) where
+  lent-refused : (r : Refusal) (told : Answer) → v ≡ Refused r → told ≡ answerFor (refusalOf r) → LentAs answer told lent after
+  lent-refused r told e t = record { answered = t ∙ ap answerFor (go answer (rw e at same)); list = list }
+    where
+      go : (o : Outcome (List ℕ)) → refusalOf r ≡ onward o (λ a. fine) → refusalOf r ≡ onward o (λ a. is (length a))
+      go (is a) e = absurd (refused-not-is e)
+      go (refused n p) e = refused-for e
 
 module _ (j : Job) (room : ℕ) (v : Verdict) (lent after : List ℕ) (p : PlannedAs (planned j room) v lent after) where
   fine-greedy : v ≡ Fine → (tables j ≡ fine) × (planned j room ≡ is (greedy j))
@@ -81,11 +95,21 @@ module _ (j : Job) (room : ℕ) (v : Verdict) (lent after : List ℕ) (p : Plann
       record { answered = t ∙ rw (fine-greedy e .1) (ap {B = Answer} (λ n. answerFor (is n)) (sym (starts-count j job))); list = p .list }
 
   pub starts-refused : (r : Refusal) (told : Answer) → v ≡ Refused r → told ≡ answerFor (refusalOf r) → LentAs (planned j room) told lent after
-  starts-refused r told e t = record { answered = t ∙ ap answerFor (go (planned j room) (rw e at (p .verdict))); list = p .list }
-    where
-      go : (o : Outcome (List ℕ)) → refusalOf r ≡ onward o (λ ss. fine) → refusalOf r ≡ onward o (λ ss. is (length ss))
-      go (is ss) e = absurd (refused-not-is e)
-      go (refused n p) e = refused-for e
+  starts-refused = lent-refused (planned j room) v lent after (p .verdict) (p .list)
+
+-- ---- starts that a plan's text says
+
+module _ (j : Job) (plan : List ℕ) (room : ℕ) (v : Verdict) (lent after : List ℕ) (p : ReadBackAs (planReadIn j plan room) v lent after) where
+  pub read-few : v ≡ Fine → length (j .sources) ≤ packetsMost
+  read-few e = read-starts j plan room p e .started .job .packets-most
+
+  pub plan-read-told : (told : Answer) → v ≡ Fine → told ≡ answerFor (is (length (j .sources))) → LentAs (planReadIn j plan room) told lent after
+  plan-read-told told e t =
+      let r = read-starts j plan room p e in
+      record { answered = t ∙ rw (r .said) (ap {B = Answer} (λ n. answerFor (is n)) (sym (r .started .count))); list = p .starts }
+
+  pub plan-read-refused : (r : Refusal) (told : Answer) → v ≡ Refused r → told ≡ answerFor (refusalOf r) → LentAs (planReadIn j plan room) told lent after
+  plan-read-refused = lent-refused (planReadIn j plan room) v lent after (p .verdict) (p .starts)
 
 -- ---- the check
 
@@ -146,3 +170,18 @@ text-told o w t = record { answered = t ∙ ap answerFor (w .bytes); list = w .r
 pub read-told : {text : List ℕ} {reading : Reading} {told : ReadAnswer} {lent after : Lists}
     → ReadAs (readIn text lent) reading lent after → told ≡ readFor (readingOf reading) → ReadFor text told lent after
 read-told a t = record { answered = t ∙ ap readFor (a .answer); lists = a .lists }
+
+-- ---- two texts
+
+pub nothing-lent : (lent : List ℕ) {answer : Answer} → answer ≡ answerFor (is 0) → LentAs (inRoom [] (length lent)) answer lent lent
+unfolding inRoom lentAfter
+nothing-lent lent t = rw (le-leb 0 (length lent) (omega arith)) (record { answered = t; list = refl })
+
+pub refusal-lent : {number place : ℕ} {lent : List ℕ} {answer : Answer} → answer ≡ answerFor (refused number place) → LentAs (refused number place) answer lent lent
+unfolding lentAfter
+refusal-lent t = record { answered = t; list = refl }
+
+pub texts-for : (texts : TextsChecked) {found : Texts} → textsOf found ≡ texts → (t : Texts) → found ≡ t → {answer : Answer} {told : TextsAnswer} {lent after : List ℕ}
+    → told ≡ aboutText (refusedText (textsOf t)) answer → LentAs (clashIn (textsOf t) (length lent)) answer lent after → TextsFor texts told lent after
+texts-for texts same t e told l =
+    rw (← same, e) (record { answered = told ∙ ap (aboutText (refusedText (textsOf t))) (l .answered); list = l .list })

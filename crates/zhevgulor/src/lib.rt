@@ -10,8 +10,10 @@ ghost use Rattle.job.specs.Lists.{jobIn};
 ghost use Rattle.job.specs.Told.{refusalOf};
 ghost use Rattle.job_text.specs.Told.{listsGiven, listsLeft, readingOf};
 ghost use Rattle.plan_text.specs.Told.{writtenOf};
-ghost use Rattle.zhevgulor.specs.Told.{answerFor, leadFor, readFor, LentAs, ReadFor};
+ghost use Rattle.zhevgulor.specs.Told.{answerFor, leadFor, readFor, aboutText, LentAs, ReadFor};
 ghost use Rattle.zhevgulor.specs.Promise.{PlanPromise, CheckPromise};
+ghost use Rattle.zhevgulor.specs.PlanBackPromise.{ReadPlanPromise, CheckTextsPromise};
+use checking::Texts;
 use job::Refusal;
 use job::Step;
 use job::Verdict;
@@ -44,6 +46,14 @@ pub struct ReadAnswer {
     pub links: u32,
     pub packets: u32,
     pub hops: u32,
+}
+
+// An answer on two texts, and which of them is refused: 0 neither, 1 the job's, 2 the plan's.
+#[repr(C)]
+pub struct TextsAnswer {
+    pub text: u32,
+    pub refusal: u32,
+    pub value: u32,
 }
 
 fn value(n: u32) -> Answer
@@ -260,4 +270,66 @@ pub extern "C" fn zhevgulor_read(
 {
     let reading = job_text::read(job, origins, ends, sources, stops, hops);
     counts(reading)
+}
+
+// From a plan's text to the starts that it says for a job as lists: value is the number of packets, whose starts stand in the
+// first places.
+#[no_mangle]
+pub extern "C" fn zhevgulor_read_plan(
+    nodes: u16,
+    origins: &[u16],
+    ends: &[u16],
+    sources: &[u16],
+    stops: &[u16],
+    hops: &[u16],
+    plan: &[u8],
+    starts: &mut [u16],
+) -> Answer
+    ensures { λ r. ⌜ ReadPlanPromise (jobIn nodes origins ends sources stops hops) (given plan) (given starts) r (left starts) ⌝ }
+{
+    let verdict = plan_text::reading::read(
+        nodes,
+        origins,
+        ends,
+        sources,
+        stops,
+        hops,
+        plan,
+        starts,
+    );
+    let packets = sources.len();
+    match verdict {
+        Verdict::Fine => value(packets as u32),
+        Verdict::Refused(refusal) => refused(refusal),
+    }
+}
+
+fn about(text: u32, answer: Answer) -> TextsAnswer
+    ensures { λ r. ⌜ r ≡ aboutText text answer ⌝ }
+{
+    TextsAnswer {
+        text,
+        refusal: answer.refusal,
+        value: answer.value,
+    }
+}
+
+// The check of a plan's text for a job's text: value 0 is clear, value 4 a clash, whose later packet, earlier packet, link and
+// step stand in the first places.
+#[no_mangle]
+pub extern "C" fn zhevgulor_check_texts(job: &[u8], plan: &[u8], clash: &mut [u32]) -> TextsAnswer
+    ensures { λ r. ⌜ CheckTextsPromise (given job) (given plan) (given clash) r (left clash) ⌝ }
+{
+    let texts = checking::check(job, plan);
+    match texts {
+        Texts::Clear => about(0, value(0)),
+        Texts::Clash {
+            later,
+            earlier,
+            link,
+            step,
+        } => about(0, shown(later, earlier, link, step, clash)),
+        Texts::JobRefused(refusal) => about(1, refused(refusal)),
+        Texts::PlanRefused(refusal) => about(2, refused(refusal)),
+    }
 }
