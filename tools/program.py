@@ -6,10 +6,5 @@ import programs
 if len(sys.argv) < 2:
     programs.fail('program', 'which? tools/program NAME [ARGUMENT ..]')
 words = programs.command(sys.argv[1]) + sys.argv[2:]
-os.close(0)
-try:
-    os.dup2(programs.INPUT, 0)
-    os.close(programs.INPUT)
-except OSError:
-    pass  # standard input was closed, and so it is for the program
+programs.take_input()
 os.execv(words[0], words)

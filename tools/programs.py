@@ -6,11 +6,22 @@ VERSION = '1.0'
 INPUT = 3  # a command's standard input, as its script in sh hands it on
 ROOT = os.path.dirname(os.path.dirname(os.path.realpath(__file__)))
 BIN = os.path.join(ROOT, 'target', 'bin')
+CRATES = {'check': 'check_plan'}  # the crates of programs that are not named as they are: the kit has a crate check of its own
 
 
 def fail(name, said):
     print(f'{name}: {said}', file=sys.stderr)
     sys.exit(2)
+
+
+def take_input():
+    """Makes a command's standard input that of this process, and closes it where the command's was closed."""
+    os.close(0)
+    try:
+        os.dup2(INPUT, 0)
+        os.close(INPUT)
+    except OSError:
+        pass
 
 
 def version(name):
@@ -47,17 +58,17 @@ def stands_on(name):
     return found
 
 
-def build(name):
+def build(name, crate):
     """Proves and builds the program, and tells on standard error how far it is."""
     rt = shutil.which('rt')
     if not rt:
         fail(name, "the program is not built yet, and building it takes rt, the Rattle kit's command, which is not on the path")
     log = os.path.join(ROOT, 'target', name + '.log')
     os.makedirs(BIN, exist_ok=True)
-    crates, begun = stands_on(name), time.monotonic()
+    crates, begun = stands_on(crate), time.monotonic()
     print(f'{name}: proving and building the program: {len(crates)} crates, some minutes the first time; log: {log}', file=sys.stderr)
     with open(log, 'w', encoding='utf-8') as out:
-        check = subprocess.Popen([rt, 'check', name], cwd=ROOT, stdin=subprocess.DEVNULL, stdout=subprocess.PIPE,
+        check = subprocess.Popen([rt, 'check', crate], cwd=ROOT, stdin=subprocess.DEVNULL, stdout=subprocess.PIPE,
                                  stderr=subprocess.STDOUT, text=True, errors='replace')
         proved, facts, others = 0, [], []
         for line in check.stdout:
@@ -73,8 +84,7 @@ def build(name):
             for line in (facts + others)[:3]:
                 print(f'{name}: {line[:300]}', file=sys.stderr)
             fail(name, f'it is not proved, so there is no program; {log} has all that was said')
-    program = os.path.join(BIN, name)
-    os.utime(program)
+    os.utime(os.path.join(BIN, crate))
 
 
 def kit(name):
@@ -93,9 +103,10 @@ def kit(name):
 
 def command(name):
     """The words that run the program, which is built first where it has to be."""
-    program = os.path.join(BIN, name)
+    crate = CRATES.get(name, name)
+    program = os.path.join(BIN, crate)
     if not is_fresh(program):
-        build(name)
+        build(name, crate)
     tools = os.path.join(kit(name), 'on', platform.machine(), 'toolchain')
     emulator = os.path.join(tools, 'bin', 'qemu-x86_64')
     words = [emulator] if os.access(emulator, os.X_OK) else []

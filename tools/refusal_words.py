@@ -1,8 +1,9 @@
-"""What a refusal of a job's text says to a person: the line, made visible, what is wrong with it and what is expected there. The
-program decides and is proved; this only finds words for what it decided."""
+"""What a refusal of a job's text, or of a plan's, says to a person: the line, made visible, what is wrong with it and what is expected
+there; and what a clash says. The programs decide and are proved; this only finds words for what they decided."""
 
 TEXT_MOST, NUMBER_MOST = 65535, 65535
 NODES, LINKS, PACKETS, PATH, HOPS = 1024, 4096, 1024, 255, 16384
+LATEST_START = 32767
 
 LINES = {b'N': 'N, the number of nodes', b'L': 'L, the node it leaves, the node it enters', b'P': 'P, the source, the links of the path'}
 
@@ -116,3 +117,90 @@ def explained(number, n, job):
     line, last, above = lines[n - 1], n == len(lines), Above(lines[:n - 1])
     wrong = bad_form(n, line, last, above) if number == 2 else SAYS[number](n, line, above)
     return f'line {n}: {visible(line)}: {wrong} (refusal {number})'
+
+# ---- A plan and its job, which was accepted
+
+PLAN_LINES = {b'S': 'S, the packet, its start, its end', b'T': 'T, the routing time, C, D'}
+LAST = 'the last line of a plan is T, the routing time, C, D'
+
+
+class Said:
+    """What a plan's lines up to the T line say, those that are as they should be, and what follows from them for its job."""
+    def __init__(self, lines, job):
+        self.job = Above(job.split(b'\n')[:-1])
+        self.hops = [len(p) - 1 for p in self.job.packets]
+        self.s_lines = next((i for i, line in enumerate(lines) if line[:1] != b'S'), len(lines))
+
+    def counts(self, lines):
+        """Routing time, C and D."""
+        ends = [numbers(line)[2] for line in lines[:self.s_lines]]
+        loads = [0] * len(self.job.links)
+        for packet in self.job.packets:
+            for link in packet[1:]:
+                loads[link] += 1
+        return [max(ends, default=0), max(loads, default=0), max(self.hops, default=0)]
+
+
+def wrong_packet(n, line):
+    named = int(line.split(b'\t')[1])
+    return f'this is the line of packet {n - 1}, and not of packet {named}: a plan has a line for each packet, in order, from 0'
+
+# The first row whose test holds is told: n the line, last whether it is cut, below whether it stands below the T line.
+BAD_PLAN_FORM = [
+    (lambda n, line, last, below: below, f'the plan goes on below its T line, and {LAST}'),
+    (lambda n, line, last, below: last and not line, f'the plan ends above this line, and {LAST}'),
+    (lambda n, line, last, below: line[:3] == b'\xef\xbb\xbf', 'a byte order mark; a plan is plain ASCII'),
+    (lambda n, line, last, below: b'\r' in line, 'a carriage return; a line ends in a line feed alone'),
+    (lambda n, line, last, below: last, 'the last line is not ended by a line feed, as every line must be'),
+    (lambda n, line, last, below: not line, f'the line is empty, and {LAST}'),
+    (lambda n, line, last, below: line[:1] not in PLAN_LINES, f'below the S lines there is one line more: {LAST}'),
+    (lambda n, line, last, below: b' ' in line, 'a space; fields are parted by one tab, and there are no spaces'),
+    (lambda n, line, last, below: line[:2] != line[:1] + b'\t', 'behind its letter a line has a tab and a number'),
+    (lambda n, line, last, below: bad_number(line), lambda n, line: bad_number(line)),
+    (lambda n, line, last, below: line.count(b'\t') != 3, lambda n, line: f'such a line has {PLAN_LINES[line[:1]]}, and nothing else'),
+    (lambda n, line, last, below: line[:1] == b'S', wrong_packet),
+]
+
+
+def bad_plan_form(n, line, last, below):
+    for test, words in BAD_PLAN_FORM:
+        if test(n, line, last, below):
+            return words if isinstance(words, str) else words(n, line)
+    return 'it is not written as a line of a plan is'
+
+
+def does_not_follow(n, line, said, lines):
+    """What 14 is told for: an end, or on the T line the first number that is wrong."""
+    if line[:1] == b'S':
+        _, start, end = numbers(line)
+        hops = said.hops[n - 1]
+        return f'the end is the start and the hops of the packet together, {start} + {hops} = {start + hops}, and not {end}'
+    for name, told, right in zip(('the routing time', 'C, the packets on the busiest link,', 'D, the hops of the longest path,'),
+                                 numbers(line), said.counts(lines)):
+        if told != right:
+            return f'{name} is {right}, and not {told}'
+    return 'the line does not follow from the starts'
+
+
+def plan_explained(number, n, plan, job):
+    """One sentence for a refusal of this number at line n of the plan, 0 where no line is to blame."""
+    if number == 1:
+        return f'the plan has more than {TEXT_MOST:,} bytes, the most that it may have (refusal 1)'
+    lines = plan.split(b'\n')
+    said = Said(lines, job)
+    if number == 11:
+        packets, ended = len(said.hops), said.s_lines
+        where = f'; line {ended + 1} is none: {visible(lines[ended])}' if ended < packets else ''
+        return f'there have to be as many S lines in the plan as packets in the job: {packets}, and not {ended}{where} (refusal 11)'
+    line = lines[n - 1]
+    if number == 2:
+        wrong = bad_plan_form(n, line, n == len(lines), n > said.s_lines + 1)
+    elif number == 12:
+        wrong = f'the start is {numbers(line)[1]:,}, and a start is at most {LATEST_START:,}'
+    else:
+        wrong = does_not_follow(n, line, said, lines)
+    return f'line {n}: {visible(line)}: {wrong} (refusal {number})'
+
+
+def clash(later, earlier, link, step):
+    return f'packet {later} and packet {earlier}, which is above it in the list, both enter link {link} in step {step}'
