@@ -10,10 +10,12 @@
 #include <string.h>
 #include <sys/mman.h>
 
-const char *const function_name[FUNCTIONS] = { "plan", "read", "tables", "starts", "check", "lead", "plan_text" };
+const char *const function_name[FUNCTIONS] = { "plan", "read", "tables", "starts", "check", "lead", "plan_text", "read_plan",
+                                              "check_texts" };
 
 static const size_t place_bytes[FUNCTIONS] = {
-    [PLAN] = 1, [READ] = sizeof(uint16_t), [STARTS] = sizeof(uint16_t), [CHECK] = sizeof(uint32_t), [PLAN_TEXT] = 1
+    [PLAN] = 1, [READ] = sizeof(uint16_t), [STARTS] = sizeof(uint16_t), [CHECK] = sizeof(uint32_t), [PLAN_TEXT] = 1,
+    [READ_PLAN] = sizeof(uint16_t), [CHECK_TEXTS] = sizeof(uint32_t)
 };
 
 static int lent_lists(const struct call *call) { return call->function == READ ? JOB_LISTS : 1; }
@@ -63,6 +65,10 @@ void ask_simple(const struct call *c, struct outcome *outcome)
     case CHECK: outcome->answer = simple_check(&c->lists, c->starts, c->starts_count, lent[0], c->lent[0]); break;
     case LEAD: outcome->answer = simple_lead(&c->lists, c->starts, c->starts_count, c->a, c->b, c->link); break;
     case PLAN_TEXT: outcome->answer = simple_plan_text(&c->lists, c->starts, c->starts_count, lent[0], c->lent[0]); break;
+    case READ_PLAN: outcome->answer = simple_read_plan(&c->lists, c->plan, c->plan_bytes, lent[0], c->lent[0]); break;
+    case CHECK_TEXTS:
+        outcome->answer = simple_check_texts(c->text, c->text_bytes, c->plan, c->plan_bytes, lent[0], c->lent[0]);
+        break;
     case FUNCTIONS: abort();
     }
 }
@@ -77,12 +83,13 @@ struct answer call_planner(const struct call *c, void *const *lent)
     zhevgulor_answer answer = { 0, 0 };
     zhevgulor_lead_answer lead;
     zhevgulor_read_answer read;
+    zhevgulor_texts_answer texts;
     switch (c->function) {
     case PLAN: answer = zhevgulor_plan(c->text, c->text_bytes, lent[0], c->lent[0]); break;
     case READ:
         read = zhevgulor_read(c->text, c->text_bytes, lent[0], c->lent[0], lent[1], c->lent[1], lent[2], c->lent[2],
                               lent[3], c->lent[3], lent[4], c->lent[4]);
-        return (struct answer){ read.refusal, read.value, 0, read.nodes, read.links, read.packets, read.hops };
+        return (struct answer){ read.refusal, read.value, 0, read.nodes, read.links, read.packets, read.hops, 0 };
     case TABLES: answer = zhevgulor_tables(LISTS); break;
     case STARTS: answer = zhevgulor_starts(LISTS, lent[0], c->lent[0]); break;
     case CHECK: answer = zhevgulor_check(LISTS, c->starts, c->starts_count, lent[0], c->lent[0]); break;
@@ -90,6 +97,10 @@ struct answer call_planner(const struct call *c, void *const *lent)
         lead = zhevgulor_lead(LISTS, c->starts, c->starts_count, (uint16_t)c->a, (uint16_t)c->b, (uint16_t)c->link);
         return (struct answer){ lead.refusal, lead.place, .lead = lead.lead };
     case PLAN_TEXT: answer = zhevgulor_plan_text(LISTS, c->starts, c->starts_count, lent[0], c->lent[0]); break;
+    case READ_PLAN: answer = zhevgulor_read_plan(LISTS, c->plan, c->plan_bytes, lent[0], c->lent[0]); break;
+    case CHECK_TEXTS:
+        texts = zhevgulor_check_texts(c->text, c->text_bytes, c->plan, c->plan_bytes, lent[0], c->lent[0]);
+        return (struct answer){ texts.refusal, texts.value, .text = texts.text };
     case FUNCTIONS: abort();
     }
     return (struct answer){ answer.refusal, .value = answer.value };
@@ -99,7 +110,7 @@ struct answer call_planner(const struct call *c, void *const *lent)
 /* Every list is handed over in a field of its own, between two stretches of memory that nobody may touch: flush with the one
  * behind it, flush with the one before it, or in the middle. What is free beside it holds guard bytes. */
 enum { FIELD_BYTES = 1 << 19, FENCE_BYTES = 1 << 16, GUARD_BYTES = 64, GUARD = 0xA5 };
-enum { TEXT_FIELD, ORIGINS_FIELD, ENDS_FIELD, SOURCES_FIELD, STOPS_FIELD, HOPS_FIELD, STARTS_FIELD, LENT_FIELD,
+enum { TEXT_FIELD, PLAN_FIELD, ORIGINS_FIELD, ENDS_FIELD, SOURCES_FIELD, STOPS_FIELD, HOPS_FIELD, STARTS_FIELD, LENT_FIELD,
        FIELDS = LENT_FIELD + JOB_LISTS };
 
 static struct field {
@@ -215,6 +226,7 @@ void ask_planner(const struct call *c, struct outcome *outcome)
         abort();
     calls++;
     laid.text = lay(TEXT_FIELD, c->text, c->text_bytes);
+    laid.plan = lay(PLAN_FIELD, c->plan, c->plan_bytes);
     laid.lists.origins = lay_list(ORIGINS_FIELD, c->lists.origins, c->lists.origins_count);
     laid.lists.ends = lay_list(ENDS_FIELD, c->lists.ends, c->lists.ends_count);
     laid.lists.sources = lay_list(SOURCES_FIELD, c->lists.sources, c->lists.sources_count);

@@ -9,8 +9,10 @@ extern const char *const function_name[FUNCTIONS];
 
 struct call {
     enum function function;
-    const uint8_t *text;
+    const uint8_t *text;    /* of a job */
     size_t text_bytes;
+    const uint8_t *plan;
+    size_t plan_bytes;
     struct lists lists;
     const uint16_t *starts; /* given */
     size_t starts_count;

@@ -10,8 +10,8 @@ long passed, failed;
 const char *part = "";
 char label[200];
 struct outcome planner;
-long given[FUNCTIONS][REFUSALS];
-long clashes;
+long given[GIVERS][REFUSALS];
+long clashes, texts_clashes;
 int keeping;
 struct kept *kept;
 size_t kept_count;
@@ -39,7 +39,7 @@ void expect(int holds, const char *format, ...)
     va_end(words);
 }
 
-/* An answer is seven numbers and nothing between them. */
+/* An answer is eight numbers and nothing between them. */
 static int same_answer(const struct answer *one, const struct answer *other) { return memcmp(one, other, sizeof *one) == 0; }
 
 static int same(const struct call *call, const struct outcome *one, const struct outcome *other)
@@ -79,7 +79,9 @@ static void print_call(FILE *file, const struct call *c)
 {
     fprintf(file, "%s: %s\nlent: %zu %zu %zu %zu %zu\n", function_name[c->function], label,
             c->lent[0], c->lent[1], c->lent[2], c->lent[3], c->lent[4]);
-    if (c->function == PLAN || c->function == READ) {
+    if (c->plan_bytes > 0)
+        print_bytes(file, "plan", c->plan, c->plan_bytes);
+    if (c->function == PLAN || c->function == READ || c->function == CHECK_TEXTS) {
         print_bytes(file, "job", c->text, c->text_bytes);
         return;
     }
@@ -96,24 +98,37 @@ static void print_call(FILE *file, const struct call *c)
 static void print_answer(FILE *file, const char *name, const struct outcome *o)
 {
     const struct answer *a = &o->answer;
-    fprintf(file, "%s: refusal %u, value or place %u, lead %d, nodes %u, links %u, packets %u, hops %u%s%s\n", name, a->refusal,
-            a->value, a->lead, a->nodes, a->links, a->packets, a->hops, o->trouble ? "; " : "", o->trouble ? o->trouble : "");
+    fprintf(file, "%s: refusal %u, value or place %u, text %u, lead %d, nodes %u, links %u, packets %u, hops %u%s%s\n", name,
+            a->refusal, a->value, a->text, a->lead, a->nodes, a->links, a->packets, a->hops,
+            o->trouble ? "; " : "", o->trouble ? o->trouble : "");
 }
 
 static void print_lent(FILE *file, const struct call *c, const struct outcome *o)
 {
     static const char name[] = "  lent list afterwards";
-    if (c->function == STARTS || c->function == READ) {
+    if (c->function == STARTS || c->function == READ_PLAN || c->function == READ) {
         const uint16_t *list = lent_starts(o);
         for (int i = 0; i < JOB_LISTS && (i == 0 || c->function == READ); list += c->lent[i++])
             print_list(file, name, list, c->lent[i]);
-    } else if (c->function == CHECK) {
+    } else if (c->function == CHECK || c->function == CHECK_TEXTS) {
         fprintf(file, "%s (%zu):", name, c->lent[0]);
         for (size_t i = 0; i < c->lent[0]; i++)
             fprintf(file, " %u", lent_clash(o)[i]);
         fprintf(file, "\n");
     } else {
         print_bytes(file, name, o->lent, lent_bytes(c));
+    }
+}
+
+/* To be tried by hand. */
+static void save_text(const char *name, const char *end, const uint8_t *byte, size_t bytes)
+{
+    char whole[120];
+    FILE *file;
+    sprintf(whole, "%s%s", name, end);
+    if (byte != NULL && (file = fopen(whole, "w")) != NULL) {
+        fwrite(byte, 1, bytes, file);
+        fclose(file);
     }
 }
 
@@ -145,11 +160,9 @@ static void save(const struct call *c, const struct outcome *simple)
     print_answer(file, "simple.c", simple);
     print_lent(file, c, simple);
     fclose(file);
-    sprintf(name, "target/tests/failed-%s%s-%d.job", part, function, number);
-    if (c->text != NULL && (file = fopen(name, "w")) != NULL) { /* to be tried by hand */
-        fwrite(c->text, 1, c->text_bytes, file);
-        fclose(file);
-    }
+    sprintf(name, "target/tests/failed-%s%s-%d", part, function, number);
+    save_text(name, ".job", c->text, c->text_bytes);
+    save_text(name, ".plan", c->plan, c->plan_bytes);
 }
 
 /* ---- Cases that are kept ---- */
@@ -194,6 +207,7 @@ static void keep(const struct call *c)
     struct kept *k = &kept[kept_count++];
     *k = (struct kept){ *c, planner.answer, fingerprint(c, &planner), copy(label, strlen(label) + 1) };
     k->call.text = copy(c->text, c->text_bytes);
+    k->call.plan = copy(c->plan, c->plan_bytes);
     copy_list(&k->call.lists.origins, c->lists.origins_count);
     copy_list(&k->call.lists.ends, c->lists.ends_count);
     copy_list(&k->call.lists.sources, c->lists.sources_count);
@@ -215,8 +229,12 @@ static void run(const struct call *c)
         return;
     }
     passed++;
-    given[c->function][planner.answer.refusal]++;
-    clashes += c->function == CHECK && planner.answer.value == 4 && planner.answer.refusal == 0;
+    int in_plan = c->function == CHECK_TEXTS && planner.answer.text == PLANS_TEXT;
+    given[in_plan ? TEXTS_PLAN : c->function][planner.answer.refusal]++;
+    if (planner.answer.refusal == 0 && planner.answer.value == 4) {
+        clashes += c->function == CHECK;
+        texts_clashes += c->function == CHECK_TEXTS;
+    }
     if (keeping)
         keep(c);
 }
@@ -259,11 +277,45 @@ void run_plan_text(const struct tables *tables, const struct list *starts, size_
                         .lent = { room } });
 }
 
+void run_read_plan(const struct tables *tables, const struct text *plan, size_t places)
+{
+    run(&(struct call){ .function = READ_PLAN, .lists = lists_of(tables), .plan = plan->byte, .plan_bytes = plan->bytes,
+                        .lent = { places } });
+}
+
+void run_check_texts(const struct text *job, const struct text *plan, size_t places)
+{
+    run(&(struct call){ .function = CHECK_TEXTS, .text = job->byte, .text_bytes = job->bytes, .plan = plan->byte,
+                        .plan_bytes = plan->bytes, .lent = { places } });
+}
+
+static const char no_packets[] = "T\t0\t0\t0\n";
+
 void run_lists(const struct tables *tables, const struct list *starts, struct rooms rooms)
 {
+    static struct text plan;
+    struct lists lists = lists_of(tables);
+    struct answer written = simple_plan_text(&lists, starts->value, starts->count, plan.byte, sizeof plan.byte);
+    clear_text(&plan);
+    if (written.refusal)
+        add(&plan, "%s", no_packets);
+    else
+        plan.bytes = written.value;
     run_tables(tables);
     run_starts(tables, rooms.starts);
     run_check(tables, starts, rooms.clash);
     run_lead(tables, starts, 0, 1, tables->hops.count > 0 ? tables->hops.value[0] : 0);
     run_plan_text(tables, starts, rooms.plan);
+    run_read_plan(tables, &plan, rooms.starts);
+}
+
+void run_own_plan(const struct text *job, size_t places)
+{
+    static struct text plan;
+    clear_text(&plan);
+    if (planner.answer.refusal)
+        add(&plan, "%s", no_packets);
+    else
+        memcpy(plan.byte, planner.lent, plan.bytes = planner.answer.value);
+    run_check_texts(job, &plan, places);
 }

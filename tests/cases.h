@@ -26,15 +26,21 @@ void run_starts(const struct tables *tables, size_t places);
 void run_check(const struct tables *tables, const struct list *starts, size_t places);
 void run_lead(const struct tables *tables, const struct list *starts, int a, int b, int link);
 void run_plan_text(const struct tables *tables, const struct list *starts, size_t room);
+void run_read_plan(const struct tables *tables, const struct text *plan, size_t places);
+void run_check_texts(const struct text *job, const struct text *plan, size_t places);
 
-/* All five functions that take lists. */
+/* All six functions that take lists. The plan that is read back is that of the starts, where they have one. */
 struct rooms { size_t starts, clash, plan; };
 void run_lists(const struct tables *tables, const struct list *starts, struct rooms rooms);
 
-/* How often each function gave each refusal, 0 being none, and how often a clash was shown. */
-enum { REFUSALS = 14 };
-extern long given[FUNCTIONS][REFUSALS];
-extern long clashes;
+/* After run_text: the same text, with the plan that was told of it, where one was. */
+void run_own_plan(const struct text *job, size_t places);
+
+/* How often each function gave each refusal, 0 being none, and how often a clash was shown. What the check of two texts refuses in
+ * the plan has a row of its own. */
+enum { REFUSALS = 15, TEXTS_PLAN = FUNCTIONS, GIVERS };
+extern long given[GIVERS][REFUSALS];
+extern long clashes, texts_clashes; /* by the check of starts, and of two texts */
 
 /* Cases that passed while `keeping` was set, to be asked again: of simple.c with each wrong rule, and for the use of stack. */
 struct kept {

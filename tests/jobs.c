@@ -130,6 +130,16 @@ struct lists lists_of(const struct tables *t)
                            t->origins.count, t->ends.count, t->sources.count, t->stops.count, t->hops.count };
 }
 
+void text_of_plan(const struct job *job, const struct list *starts, struct text *plan)
+{
+    static int start[MOST_PACKETS + 1];
+    if (starts->count != (size_t)job->packets)
+        abort();
+    for (int k = 0; k < job->packets; k++)
+        start[k] = starts->value[k];
+    plan->bytes = write_plan(job, start, plan->byte, TEXT_ROOM).value;
+}
+
 /* ---- Networks ---- */
 
 const char *const family_name[FAMILIES] = { "line", "ring", "mesh", "tree", "hypercube", "multigraph", "detours" };
@@ -486,6 +496,158 @@ void damage_text(struct text *text, const struct job *job, int line)
     default: /* a packet in place of the line */
         wild_packet(job, wild);
         replace_words(text, begin, end - begin, wild);
+        break;
+    }
+}
+
+/* ---- Damaged plans ---- */
+
+/* A number of the line, made greater or smaller by one. */
+static void off_by_one(struct text *text, size_t begin, size_t end)
+{
+    size_t from, to;
+    char word[24] = { 0 };
+    if (!find_number(text, begin, end, &from, &to) || to - from > 6)
+        return;
+    memcpy(word, text->byte + from, to - from);
+    sprintf(word, "%d", atoi(word) + (chance(50) ? 1 : -1));
+    replace_words(text, from, to - from, word);
+}
+
+/* The line, with its line feed, once more in front of another line, and perhaps no longer where it was. */
+static void copy_line(struct text *text, int line, int to_line, int gone)
+{
+    static uint8_t copy[4000];
+    size_t begin, end, bytes;
+    find_line(text, line, &begin, &end);
+    end += end < text->bytes;
+    bytes = end - begin;
+    if (bytes > sizeof copy)
+        return;
+    memcpy(copy, text->byte + begin, bytes);
+    if (gone)
+        replace(text, begin, bytes, "", 0);
+    find_line(text, to_line, &begin, &end);
+    replace(text, begin, 0, copy, bytes);
+}
+
+/* Another start in place of the line, mostly with the end that follows from it. */
+static void other_start(struct text *text, const struct job *job, int line, size_t begin, size_t end)
+{
+    static const int edges[] = { 0, 1, 2, 9, 10, 16384, 32766, LATEST_START, LATEST_START + 1, 65279, 65535, 65536 };
+    int start = chance(60) ? edges[pick(sizeof edges / sizeof edges[0])] : between(0, 40);
+    int hops = line < job->packets ? job->packet[line].hops : 0;
+    char words[80];
+    sprintf(words, "S\t%d\t%d\t%d", line, start, start + hops + (chance(85) ? 0 : between(-1, 1)));
+    replace_words(text, begin, end - begin, words);
+}
+
+/* S lines that go on in order in front of the last line, which is T. */
+static void more_s_lines(struct text *text, int more)
+{
+    char words[80];
+    for (; more > 0; more--) {
+        int line = lines_of_text(text) - 1;
+        size_t begin, end;
+        find_line(text, line, &begin, &end);
+        sprintf(words, "S\t%d\t%d\t%d\n", line, more, chance(50) ? more : 0);
+        replace_words(text, begin, 0, words);
+    }
+}
+
+void damage_plan(struct text *text, const struct job *job, int line)
+{
+    static const uint8_t odd[] = { '\r', 0, '\t', '\n', ' ', '0', '1', '9', 'S', 'T', 's', 't', 'N', 'P', 'Q', '-', '+', '.', 127,
+                                   128, '0' + 128, 'S' + 128, '\n' + 128, '\t' + 128, 255, '\v', '\f', ',', '/', ':' };
+    static const char *const below[] = { "\n", "T\t0\t0\t0\n", "S\t0\t0\t0\n", "T", "\r\n", " ", "S", "\t" };
+    int lines = lines_of_text(text);
+    size_t begin, end, from, to, at;
+    uint8_t byte;
+    char words[80];
+    if (line < 0)
+        line = (int)pick((unsigned)lines + 1);
+    find_line(text, line, &begin, &end);
+    at = begin + pick((unsigned)(end - begin) + 1);
+    byte = odd[pick(sizeof odd)];
+    switch (pick(24)) {
+    case 0: /* a bit of a byte */
+        if (at < text->bytes)
+            text->byte[at] ^= (uint8_t)(1 << pick(8));
+        break;
+    case 1: /* a byte */
+        if (at < text->bytes)
+            text->byte[at] = chance(70) ? byte : (uint8_t)pick(256);
+        break;
+    case 2: /* a byte more */
+        replace(text, at, 0, &byte, 1);
+        break;
+    case 3: /* a byte less */
+        if (at < text->bytes)
+            replace(text, at, 1, "", 0);
+        break;
+    case 4: /* a leading zero */
+        if (find_number(text, begin, end, &from, &to))
+            replace_words(text, from, 0, "0");
+        break;
+    case 5: /* another number */
+        if (find_number(text, begin, end, &from, &to))
+            replace_words(text, from, to - from, number_word(job));
+        break;
+    case 6: /* a field more, or less */
+        if (chance(50))
+            replace_words(text, end, 0, chance(40) ? "\t" : "\t0");
+        else if (find_number(text, begin, end, &from, &to))
+            replace(text, from - 1, to - from + 1, "", 0);
+        break;
+    case 7: /* another letter */
+        if (begin < end)
+            text->byte[begin] = chance(70) ? (uint8_t)"STNP"[pick(4)] : byte;
+        break;
+    case 8: /* the line twice */
+        copy_line(text, line, line, 0);
+        break;
+    case 9: /* the line elsewhere */
+        copy_line(text, line, (int)pick((unsigned)lines + 1), 1);
+        break;
+    case 10: /* two neighbours change places */
+        copy_line(text, line, line + 1, 1);
+        break;
+    case 11: /* a line less */
+        replace(text, begin, end - begin + (end < text->bytes), "", 0);
+        break;
+    case 12: /* the text is cut */
+        text->bytes = chance(50) && text->bytes > 0 ? text->bytes - 1 : pick((unsigned)text->bytes + 1);
+        break;
+    case 13: /* no T line */
+        find_line(text, lines - 1, &begin, &end);
+        text->bytes = begin;
+        break;
+    case 14: /* something below it */
+        replace_words(text, text->bytes, 0, below[pick(sizeof below / sizeof below[0])]);
+        break;
+    case 15: /* lines that end as elsewhere */
+        replace_words(text, end, 0, "\r");
+        break;
+    case 16: /* S lines too many */
+        if (lines > 0)
+            more_s_lines(text, chance(90) ? between(1, 3) : between(4, 60));
+        break;
+    case 17: /* an S line too few, the others in order */
+        find_line(text, lines - 2, &begin, &end);
+        if (lines > 1)
+            replace(text, begin, end - begin + 1, "", 0);
+        break;
+    case 18:
+    case 19: /* another start */
+        other_start(text, job, line, begin, end);
+        break;
+    case 20: /* another T line */
+        find_line(text, lines - 1, &begin, &end);
+        sprintf(words, "T\t%d\t%d\t%d", between(0, 20), between(0, 4), between(0, 4));
+        replace_words(text, begin, end - begin, words);
+        break;
+    default: /* a number off by one */
+        off_by_one(text, begin, end);
         break;
     }
 }

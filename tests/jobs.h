@@ -31,6 +31,7 @@ extern const char session_a[];
 void text_of_job(const struct job *job, struct text *text);
 void tables_of_job(const struct job *job, struct tables *tables);
 struct lists lists_of(const struct tables *tables);
+void text_of_plan(const struct job *job, const struct list *starts, struct text *plan); /* as many starts as packets, of any size */
 
 /* Random jobs. */
 enum family { LINE, RING, MESH, TREE, CUBE, MULTIGRAPH, DETOURS, FAMILIES };
@@ -44,9 +45,10 @@ enum starts_kind { PLANNED, ZEROS, SMALL, NEARLY_PLANNED, SHIFTED, WIDE, LATE, O
                    FEWER_AND_OVER, STARTS_KINDS };
 void random_starts(const struct job *job, const int *planned, enum starts_kind kind, struct list *starts);
 
-/* Damage: one change that mostly, but not always, makes the job wrong. In a text, to the line given (from 0) or, if it is -1,
- * to any. */
+/* Damage: one change that mostly, but not always, makes the job or the plan wrong. In a text, to the line given (from 0) or, if it
+ * is -1, to any. */
 void damage_text(struct text *text, const struct job *job, int line);
+void damage_plan(struct text *plan, const struct job *job, int line);
 int lines_of_text(const struct text *text);
 void damage_tables(struct tables *tables, const struct job *job);
 

@@ -43,14 +43,30 @@ static void run_huge(const struct call *whole, const struct call *cut, uint32_t 
 
 static void huge_texts(const void *zeros)
 {
-    for (enum function f = PLAN; f <= READ; f++)
+    static const enum function function[] = { PLAN, READ, CHECK_TEXTS };
+    for (size_t i = 0; i < sizeof function / sizeof function[0]; i++)
         for (size_t more = 0; more <= 4; more += 4) {
-            struct call cut = { .function = f, .text = zeros, .text_bytes = more, .lent = { ROOM } }, whole;
-            if (f == READ)
+            struct call cut = { .function = function[i], .text = zeros, .text_bytes = more, .lent = { ROOM } }, whole;
+            if (cut.function == READ)
                 memcpy(cut.lent, list_size, sizeof cut.lent);
             whole = cut;
             whole.text_bytes += TOO_LONG;
             name_cases("text of %zu bytes", whole.text_bytes);
+            run_huge(&whole, &cut, 1);
+        }
+}
+
+/* A plan for a job of one node and nothing else, by itself and with the job as a text. */
+static void huge_plans(const void *zeros)
+{
+    static const uint8_t one_node[] = { 'N', '\t', '1', '\n' };
+    for (enum function f = READ_PLAN; f <= CHECK_TEXTS; f++)
+        for (size_t more = 0; more <= 4; more += 4) {
+            struct call cut = { .function = f, .text = one_node, .text_bytes = sizeof one_node, .plan = zeros, .plan_bytes = more,
+                                .lists = { .nodes = 1 }, .lent = { 100 } };
+            struct call whole = cut;
+            whole.plan_bytes += TOO_LONG;
+            name_cases("plan of %zu bytes", whole.plan_bytes);
             run_huge(&whole, &cut, 1);
         }
 }
@@ -68,7 +84,7 @@ static void huge_lists(const uint16_t *zeros)
         { "starts", 0, 0, 0, 0, 0, 1, 11 },
     };
     for (size_t i = 0; i < sizeof row / sizeof row[0]; i++)
-        for (enum function f = row[i].starts ? CHECK : TABLES; f <= PLAN_TEXT; f++) {
+        for (enum function f = row[i].starts ? CHECK : TABLES; f <= (row[i].starts ? PLAN_TEXT : READ_PLAN); f++) {
             struct call cut = { .function = f, .lent = { 100 }, .starts = zeros,
                                 .lists = { .nodes = 1, .origins = zeros, .ends = zeros, .sources = zeros, .stops = zeros,
                                            .hops = zeros } };
@@ -119,17 +135,19 @@ static void run_huge_room(struct call call, size_t place_bytes, uint8_t *room)
 
 static void huge_rooms(uint8_t *room)
 {
-    static struct text text;
+    static struct text text, plan;
     static struct job job;
     static struct tables tables;
-    static const uint16_t starts[4];
+    static const struct list starts = { .count = 4 };
     show_job(&job, session_a);
     text_of_job(&job, &text);
+    text_of_plan(&job, &starts, &plan);
     tables_of_job(&job, &tables);
-    struct call call = { .text = text.byte, .text_bytes = text.bytes, .lists = lists_of(&tables), .starts = starts,
-                         .starts_count = 4 };
+    struct call call = { .text = text.byte, .text_bytes = text.bytes, .plan = plan.byte, .plan_bytes = plan.bytes,
+                         .lists = lists_of(&tables), .starts = starts.value, .starts_count = starts.count };
     static const struct { enum function function; size_t place_bytes; } row[] = {
-        { PLAN, 1 }, { STARTS, sizeof(uint16_t) }, { CHECK, sizeof(uint32_t) }, { PLAN_TEXT, 1 }
+        { PLAN, 1 }, { STARTS, sizeof(uint16_t) }, { CHECK, sizeof(uint32_t) }, { PLAN_TEXT, 1 }, { READ_PLAN, sizeof(uint16_t) },
+        { CHECK_TEXTS, sizeof(uint32_t) }
     };
     for (size_t i = 0; i < sizeof row / sizeof row[0]; i++) {
         call.function = row[i].function;
@@ -144,6 +162,7 @@ void huge_lengths(void)
     void *zeros = reserve(inputs, PROT_READ), *room = reserve(rooms, PROT_READ | PROT_WRITE);
     if (zeros) {
         huge_texts(zeros);
+        huge_plans(zeros);
         huge_lists(zeros);
         munmap(zeros, inputs);
     }

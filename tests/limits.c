@@ -9,7 +9,7 @@
 
 #define COUNT(array) (sizeof (array) / sizeof (array)[0])
 
-static struct text text;
+static struct text text, plan;
 static struct tables tables;
 static struct list starts;
 static struct job job;
@@ -53,10 +53,11 @@ static void run_tables_everywhere(void)
     run_lists(&tables, &starts, (struct rooms){ 1025, 4, ROOM });
 }
 
-/* The text, planned and read. */
+/* The text, planned, checked with its plan, and read. */
 static void run_text_everywhere(size_t room)
 {
     run_text(&text, room);
+    run_own_plan(&text, 4);
     run_read(&text, -1, 0);
 }
 
@@ -364,6 +365,9 @@ static void run_one_meeting(int first, int second, int link, int step)
     const uint32_t *clash = lent_clash(&planner);
     expect(planner.answer.value == 4 && clash[0] == (uint32_t)second && clash[1] == (uint32_t)first
            && clash[2] == (uint32_t)link && clash[3] == (uint32_t)step, "%s: clash", label);
+    text_of_plan(&job, &starts, &plan);
+    run_check_texts(&text, &plan, 4);
+    expect(planner.answer.value == 4 && clash[0] == (uint32_t)second && clash[1] == (uint32_t)first, "%s: clash of texts", label);
 }
 
 /* Two paths of 255 hops, side by side, that share the link of one hop. */

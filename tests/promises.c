@@ -29,6 +29,8 @@ SAME(ZHEVGULOR_LEAD, GREATEST_LEAD);
 SAME(ZHEVGULOR_PLAN_BYTES, MOST_PLAN_BYTES);
 SAME(ZHEVGULOR_CLASH, CLASH_NUMBERS);
 SAME(ZHEVGULOR_STACK_BYTES, MOST_STACK);
+SAME(ZHEVGULOR_JOB, JOBS_TEXT);
+SAME(ZHEVGULOR_PLAN, PLANS_TEXT);
 
 /* ---- Types ---- */
 
@@ -45,6 +47,8 @@ TYPE(zhevgulor_starts, zhevgulor_answer (*)(LISTS, LENT));
 TYPE(zhevgulor_check, zhevgulor_answer (*)(LISTS, LIST, uint32_t *, size_t));
 TYPE(zhevgulor_lead, zhevgulor_lead_answer (*)(LISTS, LIST, uint16_t, uint16_t, uint16_t));
 TYPE(zhevgulor_plan_text, zhevgulor_answer (*)(LISTS, LIST, uint8_t *, size_t));
+TYPE(zhevgulor_read_plan, zhevgulor_answer (*)(LISTS, const uint8_t *, size_t, LENT));
+TYPE(zhevgulor_check_texts, zhevgulor_texts_answer (*)(const uint8_t *, size_t, const uint8_t *, size_t, uint32_t *, size_t));
 
 /* An answer is its members, one behind the other, of four bytes each. */
 #define SIZE(answer, members) _Static_assert(sizeof(answer) == 4 * (members), #answer)
@@ -65,14 +69,19 @@ MEMBER(zhevgulor_read_answer, nodes, 2, uint32_t);
 MEMBER(zhevgulor_read_answer, links, 3, uint32_t);
 MEMBER(zhevgulor_read_answer, packets, 4, uint32_t);
 MEMBER(zhevgulor_read_answer, hops, 5, uint32_t);
+SIZE(zhevgulor_texts_answer, 3);
+MEMBER(zhevgulor_texts_answer, text, 0, uint32_t);
+MEMBER(zhevgulor_texts_answer, refusal, 1, uint32_t);
+MEMBER(zhevgulor_texts_answer, value, 2, uint32_t);
 
 /* ---- Lists that were read ---- */
 
-/* As the header shows it: the text is read, and the lists are handed on to be planned and written. The plan is the text's. */
+/* As the header shows it: the text is read, and the lists are handed on to be planned and written, and the plan to be read back and
+ * checked. The plan is the text's. */
 static int planned_in_two_steps(const struct text *text, uint8_t *plan, size_t bytes)
 {
     static uint16_t origins[ZHEVGULOR_LINKS], ends[ZHEVGULOR_LINKS], sources[ZHEVGULOR_PACKETS], stops[ZHEVGULOR_PACKETS],
-        hops[ZHEVGULOR_HOPS], starts[ZHEVGULOR_PACKETS];
+        hops[ZHEVGULOR_HOPS], starts[ZHEVGULOR_PACKETS], again[ZHEVGULOR_PACKETS];
     static uint8_t written[ZHEVGULOR_PLAN_BYTES];
     zhevgulor_read_answer j = zhevgulor_read(text->byte, text->bytes, origins, ZHEVGULOR_LINKS, ends, ZHEVGULOR_LINKS,
         sources, ZHEVGULOR_PACKETS, stops, ZHEVGULOR_PACKETS, hops, ZHEVGULOR_HOPS);
@@ -82,7 +91,17 @@ static int planned_in_two_steps(const struct text *text, uint8_t *plan, size_t b
         return 0;
     answer = zhevgulor_plan_text((uint16_t)j.nodes, origins, j.links, ends, j.links, sources, j.packets,
         stops, j.packets, hops, j.hops, starts, answer.value, written, sizeof written);
-    return answer.refusal == 0 && answer.value == bytes && memcmp(written, plan, bytes) == 0;
+    if (answer.refusal != 0 || answer.value != bytes || memcmp(written, plan, bytes) != 0)
+        return 0;
+    answer = zhevgulor_read_plan((uint16_t)j.nodes, origins, j.links, ends, j.links, sources, j.packets, stops, j.packets,
+        hops, j.hops, written, bytes, again, ZHEVGULOR_PACKETS);
+    if (answer.refusal != 0 || answer.value != j.packets || memcmp(again, starts, j.packets * sizeof again[0]) != 0)
+        return 0;
+    uint32_t clash[ZHEVGULOR_CLASH];
+    answer = zhevgulor_check((uint16_t)j.nodes, origins, j.links, ends, j.links, sources, j.packets, stops, j.packets,
+        hops, j.hops, again, j.packets, clash, ZHEVGULOR_CLASH);
+    zhevgulor_texts_answer told = zhevgulor_check_texts(text->byte, text->bytes, written, bytes, clash, ZHEVGULOR_CLASH);
+    return answer.refusal == 0 && answer.value == 0 && told.text == 0 && told.refusal == 0 && told.value == 0;
 }
 
 void read_and_plan(void)
@@ -95,7 +114,7 @@ void read_and_plan(void)
         random_job(&job, (enum family)(i % FAMILIES), (enum crowd)(i / FAMILIES % CROWDS), i == 199);
         text_of_job(&job, &text);
         size_t bytes = simple_plan(text.byte, text.bytes, plan, ROOM).value;
-        expect(planned_in_two_steps(&text, plan, bytes), "random job %d, read and then planned", i);
+        expect(planned_in_two_steps(&text, plan, bytes), "random job %d, read, planned and read back", i);
     }
 }
 

@@ -31,6 +31,18 @@ void damaged_texts(void);
 void damaged_lists(void);
 void print_seeds(void);
 
+/* plans.c: plans that are read back. */
+void plan_sessions(void);
+void plan_forms(void);
+void plan_lines(void);
+void plan_bytes(void);
+void plan_pairs(void);
+void plan_limits(void);
+void plan_rooms(void);
+void written_plans(void);
+void damaged_plans(void);
+void print_plan_seeds(void);
+
 /* promises.c: what zhevgulor.h says beside the answers. */
 void read_and_plan(void);
 void threads(void);

@@ -1,9 +1,9 @@
-/* simple.c: the rules of document 01, each said in a comment and done in the lines below it.
+/* simple.c: the rules of document 01, and of plans that are read back, each said in a comment and done in the lines below it.
  *
  * `planted(NAME)` is 1 while the wrong rule NAME of wrong.h is switched on. To read the rules, take it for 0.
  *
  * Where the order of refusals matters it stands in a string, one character for each thing that is asked: a digit for the refusal of
- * that number, B to D for 11 to 13, and a small letter for a group of them. */
+ * that number, B to E for 11 to 14, and a small letter for a group of them. */
 #include "simple.h"
 #include "wrong.h"
 
@@ -611,7 +611,7 @@ static struct answer room_early(struct answer refusal, int too_short)
 }
 
 /* A line for each packet: S, packet, start, end. Then T, routing time, C, D. */
-static struct answer write_plan(const struct job *job, const int *start, uint8_t *room, size_t room_bytes)
+struct answer write_plan(const struct job *job, const int *start, uint8_t *room, size_t room_bytes)
 {
     static char plan[20 * (MOST_PACKETS + 2)];
     int bytes = 0, c = most_on_one_link(job), d = longest_path(job);
@@ -743,7 +743,176 @@ static struct answer counts_of(const struct job *job, struct answer answer)
     return answer;
 }
 
-/* ---- The seven functions ---- */
+/* ---- Plan text ---- */
+
+/* What a plan's text says. The first lines that begin with S are its S lines, whatever else stands on them. */
+static struct plan {
+    const uint8_t *text;
+    size_t bytes;
+    int s_lines;
+    size_t below;                                       /* where the line below them begins */
+    int start[MOST_PACKETS + 1], end[MOST_PACKETS + 1]; /* of those that are in order */
+    int time, c, d;                                     /* of the T line */
+} the_plan;
+
+/* 1: the text is too long. */
+static int plan_too_long(size_t bytes) { return length(bytes, PLAN_16_BITS) > (size_t)(MOST_BYTES + OFF(PLAN_BYTES)); }
+
+/* Whether there is a line here that begins with S. */
+static int begins_with_s(const struct plan *plan, size_t at, int lines)
+{
+    if (at == plan->bytes || plan->text[at] != 'S')
+        return 0;
+    int tab = at + 1 < plan->bytes && plan->text[at + 1] == '\t', ended = memchr(plan->text + at, '\n', plan->bytes - at) != NULL;
+    return !(planted(PLAN_S_ENOUGH) && lines == the_job.packets) && !(planted(PLAN_S_FIELD) && !tab)
+        && !(planted(PLAN_S_CUT) && !ended);
+}
+
+static void find_s_lines(struct plan *plan)
+{
+    struct line line = { 0 };
+    plan->below = 0;
+    for (plan->s_lines = 0; begins_with_s(plan, plan->below, plan->s_lines); plan->s_lines++)
+        next_line(plan->text, plan->bytes, &plan->below, &line);
+}
+
+/* 2: the letter, then three numbers, and a line feed. */
+static int bad_plan_line(const struct line *line, int letter)
+{
+    int cut = !line->ended && !(planted(NO_LAST_LINE_FEED) && !line->empty);
+    return cut || line->letter != letter || !line->all_numbers || line->values < 3
+        || line->values > 3 + planted(PLAN_EXTRA_FIELD);
+}
+
+/* The S lines: 2 for one in bad form, and for one that is not of packet 0, 1, 2 and so on. */
+static struct answer s_lines(struct plan *plan)
+{
+    struct line line = { 0 };
+    size_t at = 0;
+    for (int k = 0; k < plan->s_lines; k++) {
+        int packet = k + planted(PLAN_S_FROM_1), past = planted(PLAN_S_PAST_UNSEEN) && k > the_job.packets;
+        next_line(plan->text, plan->bytes, &at, &line);
+        if (!past && (bad_plan_line(&line, 'S') || (line.value[0] != packet && !planted(PLAN_S_ANY_NUMBER))))
+            return refuse(2, (size_t)(line.number - planted(PLAN_LINES_FROM_0)));
+        if (k <= MOST_PACKETS) {
+            plan->start[k] = line.value[1];
+            plan->end[k] = line.value[2];
+        }
+    }
+    return fine();
+}
+
+/* 11: they are not as many as the packets. */
+static struct answer as_many(const struct plan *plan)
+{
+    int packets = the_job.packets, lines = plan->s_lines;
+    if (lines == packets || (lines > packets && planted(PLAN_MORE_TAKEN)) || (lines < packets && planted(PLAN_FEWER_TAKEN)))
+        return fine();
+    return refuse(11, planted(PLAN_11_COUNTED) ? (size_t)lines : planted(PLAN_11_AT_LINE) ? (size_t)lines + 1 : 0);
+}
+
+/* The T line, which is the line below the S lines: 2 if it is in bad form or missing. Then 2, at the line below it, for anything
+ * that stands there. */
+static struct answer t_line(struct plan *plan)
+{
+    struct line line = { .number = plan->s_lines };
+    size_t at = plan->below, place = (size_t)(plan->s_lines + 1 - planted(PLAN_LINES_FROM_0));
+    if (at == plan->bytes && planted(PLAN_NO_T_TAKEN))
+        return fine();
+    if (at == plan->bytes)
+        return refuse(2, place - (planted(PLAN_NO_T_AT_LAST) && plan->s_lines > 0));
+    next_line(plan->text, plan->bytes, &at, &line);
+    if (bad_plan_line(&line, 'T'))
+        return refuse(2, place);
+    plan->time = line.value[0];
+    plan->c = line.value[1];
+    plan->d = line.value[2];
+    if (at == plan->bytes || planted(PLAN_AFTER_T_TAKEN) || (planted(PLAN_EMPTY_AFTER_T) && plan->text[at] == '\n'))
+        return fine();
+    return refuse(2, place + !planted(PLAN_AFTER_T_AT_T));
+}
+
+/* What the S line of packet k says: 12 for a start that is too late, 14 for an end that is not start and hops together. */
+static int breaks_value(const struct plan *plan, int k, char rule)
+{
+    int end = plan->start[k] + (planted(PLAN_END_IS_START) ? 0 : the_job.packet[k].hops);
+    switch (rule) {
+    case 'C': return plan->start[k] > LATEST_START + OFF(START) && !(planted(PLAN_LATE_FROM_1000_UNSEEN) && k >= 1000);
+    case 'E': return plan->end[k] != end && !planted(PLAN_END_UNSEEN) && !(planted(PLAN_END_FROM_1000_UNSEEN) && k >= 1000);
+    }
+    abort();
+}
+
+/* Line after line, and on each what the order says. */
+static struct answer s_values(const struct plan *plan, const char *order)
+{
+    struct answer found = fine();
+    int lines = plan->s_lines < the_job.packets ? plan->s_lines : the_job.packets;
+    for (int k = 0; k < lines; k++)
+        for (const char *rule = order; *rule; rule++)
+            if ((!found.refusal || planted(PLAN_LAST_BAD_LINE)) && breaks_value(plan, k, *rule)) {
+                found = refuse(*rule - 'A' + 10, (size_t)(k + 1 - planted(PLAN_VALUES_AT_PACKET)));
+                break;
+            }
+    return found;
+}
+
+/* 14 on the T line: for the routing time, C or D. */
+static struct answer t_values(const struct plan *plan)
+{
+    int c = most_on_one_link(&the_job), d = longest_path(&the_job), swapped = planted(C_AND_D_SWAPPED);
+    int wrong_time = plan->time != routing_time(&the_job, plan->start) && !planted(PLAN_TIME_UNSEEN);
+    int wrong_c = plan->c != (swapped || planted(PLAN_D_FOR_C) ? d : c) && !planted(PLAN_C_UNSEEN);
+    int wrong_d = plan->d != (swapped || planted(PLAN_C_FOR_D) ? c : d) && !planted(PLAN_D_UNSEEN);
+    if ((wrong_time || wrong_c || wrong_d) && !planted(PLAN_T_UNSEEN))
+        return refuse(14, (size_t)(plan->s_lines + !planted(PLAN_VALUES_AT_PACKET)));
+    return fine();
+}
+
+/* What refuses a plan, in the order given: j, its job; 1; s, the S lines; B, which is 11; t, the T line; v, what the S lines say;
+ * w, what the T line says. L is 12 of all lines. The job's refusal was found before, and without one the_job is the job. */
+static struct answer plan_in_order(struct answer jobs, const char *order)
+{
+    struct plan *plan = &the_plan;
+    for (; *order; order++) {
+        struct answer found = fine();
+        switch (*order) {
+        case 'j': found = jobs; break;
+        case '1': if (plan_too_long(plan->bytes)) found = refuse(1, 0); break;
+        case 's': found = s_lines(plan); break;
+        case 'B': found = as_many(plan); break;
+        case 't': found = t_line(plan); break;
+        case 'L': found = s_values(plan, "C"); break;
+        case 'v': found = s_values(plan, planted(PLAN_14_BEFORE_12) ? "EC" : "CE"); break;
+        case 'w': found = t_values(plan); break;
+        }
+        found.text = *order == 'j' ? JOBS_TEXT : PLANS_TEXT;
+        if (found.refusal)
+            return found;
+    }
+    return fine();
+}
+
+/* The job's own refusals; 1; the S lines; 11; the T line; and then, line by line, what they say. */
+static struct answer read_plan(struct answer jobs, const uint8_t *text, size_t bytes)
+{
+    the_plan = (struct plan){ .text = text, .bytes = bytes };
+    if (jobs.refusal)
+        the_job.packets = 0; /* it may be half read, or another one */
+    find_s_lines(&the_plan);
+    return plan_in_order(jobs, planted(PLAN_1_BEFORE_JOB) ? "1jsBtvw"
+                             : planted(PLAN_2_BEFORE_JOB) ? "1sjBtvw"
+                             : planted(PLAN_2_BEFORE_1) ? "js1Btvw"
+                             : planted(PLAN_1_LAST) ? "jsBtvw1"
+                             : planted(PLAN_11_BEFORE_2) ? "j1Bstvw"
+                             : planted(PLAN_T_BEFORE_11) ? "j1stBvw"
+                             : planted(PLAN_VALUES_BEFORE_11) ? "j1svBtw"
+                             : planted(PLAN_VALUES_BEFORE_T) ? "j1sBvtw"
+                             : planted(PLAN_12_OF_ALL_FIRST) ? "j1sBtLvw"
+                             : planted(PLAN_T_VALUES_FIRST) ? "j1sBtwv" : "j1sBtvw");
+}
+
+/* ---- The nine functions ---- */
 
 enum { LEAST_PLAN = sizeof "T\t0\t0\t0\n" - 1 };
 
@@ -854,4 +1023,48 @@ struct answer simple_plan_text(const struct lists *lists, const uint16_t *starts
         return room_early(refusal, room_bytes < LEAST_PLAN);
     take_starts(starts);
     return write_plan(&the_job, the_start, room, room_bytes);
+}
+
+/* The reader of plans: the tables, then the plan's refusals; then its starts; 10 last. */
+struct answer simple_read_plan(const struct lists *lists, const uint8_t *plan, size_t plan_bytes,
+                               uint16_t *starts, size_t starts_count)
+{
+    uint16_t found[MOST_PACKETS + 1];
+    struct answer refusal = read_plan(simple_tables(lists), plan, plan_bytes);
+    refusal.text = NO_TEXT;
+    for (int k = 0; k < the_job.packets; k++)
+        found[k] = (uint16_t)(planted(PLAN_ENDS_TOLD) ? the_plan.end[k] : the_plan.start[k]);
+    size_t packets = (size_t)the_job.packets, fit = starts_count < packets ? starts_count : packets;
+    if (refusal.refusal && planted(PLAN_REFUSAL_WRITES) && fit > 0)
+        memcpy(starts, found, fit * sizeof found[0]);
+    if (refusal.refusal)
+        return room_early(refusal, starts_count < lists->sources_count);
+    return deliver(found, packets, sizeof found[0], starts, starts_count);
+}
+
+/* Which text a refusal is told of. */
+static uint32_t told_of(uint32_t text)
+{
+    if (planted(TEXTS_UNTOLD))
+        return NO_TEXT;
+    return text == JOBS_TEXT && planted(TEXTS_JOB_AS_PLAN) ? PLANS_TEXT
+         : text == PLANS_TEXT && planted(TEXTS_PLAN_AS_JOB) ? JOBS_TEXT : text;
+}
+
+/* The check of two texts: the job's refusals, then the plan's; then nothing, or a clash as four numbers; 10, which is of neither
+ * text, last. */
+struct answer simple_check_texts(const uint8_t *job, size_t job_bytes, const uint8_t *plan, size_t plan_bytes,
+                                 uint32_t *clash, size_t clash_count)
+{
+    uint32_t found[CLASH_NUMBERS];
+    struct answer answer = read_plan(read_job(job, job_bytes, &the_job), plan, plan_bytes);
+    if (answer.refusal) {
+        answer.text = told_of(answer.text);
+        return room_early(answer, clash_count < CLASH_NUMBERS);
+    }
+    size_t count = find_clash(&the_job, the_plan.start, found) ? CLASH_NUMBERS : 0;
+    answer = deliver(found, count, sizeof found[0], clash, clash_count);
+    if ((answer.refusal && planted(TEXTS_10_OF_PLAN)) || (answer.value && planted(TEXTS_CLASH_OF_PLAN)))
+        answer.text = PLANS_TEXT;
+    return answer;
 }

@@ -5,7 +5,7 @@
 #include <stdlib.h>
 #include <string.h>
 
-static struct text text;
+static struct text text, plan;
 static struct tables tables;
 static struct list starts;
 static struct job job;
@@ -56,6 +56,7 @@ void wrong_forms(void)
         add(&text, "%s", form[i]);
         name_cases("form %s", on_one_line(form[i]));
         run_text(&text, SMALL_ROOM);
+        run_own_plan(&text, 4);
         run_text(&text, 0);
         run_read(&text, -1, (int)i % 3);
     }
@@ -72,8 +73,10 @@ static void one_path(int source, const int *link, int hops)
         add(&text, "\t%d", link[hop]);
     add(&text, "\n");
     run_text(&text, SMALL_ROOM);
-    if (hops < 3)
+    if (hops < 3) {
+        run_own_plan(&text, 4);
         run_read(&text, -1, 0);
+    }
 
     show_job(&job, triangle);
     tables_of_job(&job, &tables);
@@ -112,8 +115,10 @@ void short_lines(void)
                     add(&text, "%c\t%s\t%s%s\nP\t0\t4\n", "LP"[letter], numbers[from], numbers[to], ends[end]);
                     name_cases("line %c %s %s and end %zu", "LP"[letter], numbers[from], numbers[to], end);
                     run_text(&text, SMALL_ROOM);
-                    if (from == to)
+                    if (from == to) {
+                        run_own_plan(&text, 4);
                         run_read(&text, -1, 0);
+                    }
                 }
     short_paths();
 }
@@ -168,6 +173,15 @@ static void starts_of_code(int code, int base)
         push(&starts, code % base);
 }
 
+/* The starts as a plan, read back and, with the job as a text, checked. */
+static void as_texts(size_t places, size_t clash_places)
+{
+    text_of_job(&job, &text);
+    text_of_plan(&job, &starts, &plan);
+    run_read_plan(&tables, &plan, places);
+    run_check_texts(&text, &plan, clash_places);
+}
+
 /* All starts below 4 of session A; all its leads; lent lists of all small lengths. */
 static void starts_of_session_a(void)
 {
@@ -177,6 +191,7 @@ static void starts_of_session_a(void)
         name_cases("starts %d of session A", code);
         run_check(&tables, &starts, (size_t)code % 7);
         run_plan_text(&tables, &starts, (size_t)code % 50);
+        as_texts((size_t)code % 6, (size_t)code % 7);
         for (int a = 0; a < 5; a++)
             run_lead(&tables, &starts, a, code % 5, code % 4);
     }
@@ -210,6 +225,7 @@ void small_starts(void)
         name_cases("parallel links and two directions, starts %d", code);
         run_check(&tables, &starts, 5);
         run_plan_text(&tables, &starts, 100);
+        as_texts(4, 5);
     }
 
     use_job("N 5\nL 0 1\nL 1 2\nL 2 3\nL 3 4\nP 2 2\nP 1 1\nP 0 0\nP 0 0 1 2 3\nP 3 3\nP 0 0 1 2\n");
@@ -219,6 +235,8 @@ void small_starts(void)
         starts_of_code(code, 3);
         name_cases("several clashes, starts %d", code);
         run_check(&tables, &starts, 4);
+        if (code % 9 == 0)
+            as_texts(6, 4);
     }
 
     use_job("N 5\nL 0 1\nL 1 2\nL 2 3\nL 1 4\nL 4 2\nP 0 0 3 4 2\nP 0 0 1 2\nP 1 1\n");
@@ -226,6 +244,7 @@ void small_starts(void)
         starts_of_code(code, 3);
         name_cases("a way around, starts %d", code);
         run_check(&tables, &starts, 4);
+        as_texts(3, 4);
         run_starts(&tables, 3);
     }
 }
