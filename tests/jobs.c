@@ -423,6 +423,39 @@ static void wild_packet(const struct job *job, char *line)
             line += sprintf(line, "\t%d", (int)pick((unsigned)job->links + 1));
 }
 
+/* What can befall a line of any text, at a place of it or at one of its numbers. */
+enum damage { A_BIT, A_BYTE, A_BYTE_MORE, A_BYTE_LESS, A_LEADING_ZERO, ANOTHER_NUMBER };
+
+static void damage_line(struct text *text, const struct job *job, enum damage way, size_t at, uint8_t byte, size_t begin, size_t end)
+{
+    size_t from, to;
+    switch (way) {
+    case A_BIT:
+        if (at < text->bytes)
+            text->byte[at] ^= (uint8_t)(1 << pick(8));
+        break;
+    case A_BYTE:
+        if (at < text->bytes)
+            text->byte[at] = chance(70) ? byte : (uint8_t)pick(256);
+        break;
+    case A_BYTE_MORE:
+        replace(text, at, 0, &byte, 1);
+        break;
+    case A_BYTE_LESS:
+        if (at < text->bytes)
+            replace(text, at, 1, "", 0);
+        break;
+    case A_LEADING_ZERO:
+        if (find_number(text, begin, end, &from, &to))
+            replace_words(text, from, 0, "0");
+        break;
+    case ANOTHER_NUMBER:
+        if (find_number(text, begin, end, &from, &to))
+            replace_words(text, from, to - from, number_word(job));
+        break;
+    }
+}
+
 void damage_text(struct text *text, const struct job *job, int line)
 {
     static const uint8_t odd[] = { '\r', 0, '\t', '\n', ' ', '0', '1', '9', 'N', 'L', 'P', 'l', 'p', 'S', '-', '+', '.', 127, 128,
@@ -437,31 +470,26 @@ void damage_text(struct text *text, const struct job *job, int line)
     at = begin + pick((unsigned)(end - begin) + 1);
     byte = odd[pick(sizeof odd)];
     switch (pick(18)) {
-    case 0: /* a bit of a byte */
-        if (at < text->bytes)
-            text->byte[at] ^= (uint8_t)(1 << pick(8));
+    case 0:
+        damage_line(text, job, A_BIT, at, byte, begin, end);
         break;
-    case 1: /* a byte */
-        if (at < text->bytes)
-            text->byte[at] = chance(70) ? byte : (uint8_t)pick(256);
+    case 1:
+        damage_line(text, job, A_BYTE, at, byte, begin, end);
         break;
     case 2:
-    case 3: /* a byte more */
-        replace(text, at, 0, &byte, 1);
+    case 3:
+        damage_line(text, job, A_BYTE_MORE, at, byte, begin, end);
         break;
-    case 4: /* a byte less */
-        if (at < text->bytes)
-            replace(text, at, 1, "", 0);
+    case 4:
+        damage_line(text, job, A_BYTE_LESS, at, byte, begin, end);
         break;
-    case 5: /* a leading zero */
-        if (find_number(text, begin, end, &from, &to))
-            replace_words(text, from, 0, "0");
+    case 5:
+        damage_line(text, job, A_LEADING_ZERO, at, byte, begin, end);
         break;
     case 6:
     case 7:
-    case 8: /* another number */
-        if (find_number(text, begin, end, &from, &to))
-            replace_words(text, from, to - from, number_word(job));
+    case 8:
+        damage_line(text, job, ANOTHER_NUMBER, at, byte, begin, end);
         break;
     case 9: /* a field more at the end, perhaps an empty one */
         sprintf(wild, "\t%s", chance(40) ? "" : chance(50) ? "0" : number_word(job));
@@ -563,35 +591,22 @@ void damage_plan(struct text *text, const struct job *job, int line)
     int lines = lines_of_text(text);
     size_t begin, end, from, to, at;
     uint8_t byte;
+    int way;
     char words[80];
     if (line < 0)
         line = (int)pick((unsigned)lines + 1);
     find_line(text, line, &begin, &end);
     at = begin + pick((unsigned)(end - begin) + 1);
     byte = odd[pick(sizeof odd)];
-    switch (pick(24)) {
-    case 0: /* a bit of a byte */
-        if (at < text->bytes)
-            text->byte[at] ^= (uint8_t)(1 << pick(8));
-        break;
-    case 1: /* a byte */
-        if (at < text->bytes)
-            text->byte[at] = chance(70) ? byte : (uint8_t)pick(256);
-        break;
-    case 2: /* a byte more */
-        replace(text, at, 0, &byte, 1);
-        break;
-    case 3: /* a byte less */
-        if (at < text->bytes)
-            replace(text, at, 1, "", 0);
-        break;
-    case 4: /* a leading zero */
-        if (find_number(text, begin, end, &from, &to))
-            replace_words(text, from, 0, "0");
-        break;
-    case 5: /* another number */
-        if (find_number(text, begin, end, &from, &to))
-            replace_words(text, from, to - from, number_word(job));
+    way = (int)pick(24);
+    switch (way) {
+    case A_BIT:
+    case A_BYTE:
+    case A_BYTE_MORE:
+    case A_BYTE_LESS:
+    case A_LEADING_ZERO:
+    case ANOTHER_NUMBER:
+        damage_line(text, job, (enum damage)way, at, byte, begin, end);
         break;
     case 6: /* a field more, or less */
         if (chance(50))
