@@ -1,5 +1,6 @@
 -- Laws of what stands at a place of a list, if anything does.
 use mathlib.Core.Path.{_≡_, refl, sym, ap}
+use mathlib.Core.Bool.{Bool, true, false}
 use mathlib.Core.List.{List, [], _∷_, _++_, map, Memᴰ·append-left, List·Memᴰ, List·Memᴰ·head as here, List·Memᴰ·tail as there}
 use mathlib.Core.Logic.{_⊎_, inl, inr, ⊎-map}
 use mathlib.Core.Option.{Option, none, some}
@@ -7,8 +8,11 @@ use Prim.Native.Nat.{ℕ, zero, suc, _+_, _≤_, _<_}
 use native.Mathlib.Numerals.{add-one}
 use native.Mathlib.Omega.{arith}
 use native.Mathlib.Nat.{not-suc-le-zero, le-of-suc-le-suc}
-use lib.ListN.{length, getD, take, drop, getElem?, take-append-drop, length-take}
-use lib.Seq.{take-length, drop-cons}
+use lib.Dec.{eqb}
+use lib.ListN.{length, getD, set, take, drop, replicate, getElem?, take-append-drop, length-take}
+use lib.Seq.{take-length, drop-cons, getD-set-same, getD-set-other}
+use borrow.Author.Tests.{eqb-true, eqb-false}
+use Rattle.counting.specs.Count.{bit}
 
 module _ {A : Type 0} where
   pub some-same : {a b : A} → some a ≡ some b → a ≡ b
@@ -91,3 +95,17 @@ pub at-map-split : {A B : Type 0} (f : A → B) (xs : List A) (i : ℕ) {y : B} 
 at-map-split f [] i e = absurd (none-not-some e)
 at-map-split f (x ∷ xs) zero e = (x, refl, sym (some-same e))
 at-map-split f (x ∷ xs) (suc i) e = at-map-split f xs i e
+
+-- a list of zeros has a 0 at every place, and past it
+pub zero-at : (n i : ℕ) → _≡_ {A = ℕ} (getD (replicate n 0) i 0) 0
+zero-at zero i = refl
+zero-at (suc n) zero = refl
+zero-at (suc n) (suc i) = zero-at n i
+
+-- one more at a place, as a count has it
+pub one-more-at : (times : List ℕ) (at other : ℕ) → at < length times → getD (set times at (getD times at 0 + 1)) other 0 ≡ getD times other 0 + bit (eqb at other)
+one-more-at times at other h = go (eqb at other) refl
+  where
+    go : (t : Bool) → eqb at other ≡ t → getD (set times at (getD times at 0 + 1)) other 0 ≡ getD times other 0 + bit t
+    go true q = rw (← eqb-true at other q) (getD-set-same times at _ 0 h)
+    go false q = omega (arith, getD-set-other times at other (getD times at 0 + 1) 0 (λ e. eqb-false at other q (sym e)))

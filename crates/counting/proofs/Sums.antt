@@ -1,11 +1,11 @@
 -- Laws of sums and greatest values over a list.
-use mathlib.Core.Path.{_≡_, refl, ap}
+use mathlib.Core.Path.{_≡_, refl, sym, ap, _∙_}
 use mathlib.Core.Bool.{Bool, true, false, _||_}
 use mathlib.Core.List.{List, [], _∷_, _++_, map, List·Memᴰ, List·Memᴰ·head as here, List·Memᴰ·tail as there}
 use Prim.Native.Nat.{ℕ, _+_, _*_, _≤_}
 use native.Mathlib.Nat.{mul-suc}
 use native.Mathlib.Omega.{arith}
-use lib.ListN.{length}
+use lib.ListN.{length, take, drop, take-append-drop}
 use Rattle.counting.specs.Count.{bit, anyOf, sumOf, maxOf}
 
 pub bit-or : (a b : Bool) → bit (a || b) ≤ bit a + bit b
@@ -32,6 +32,16 @@ module _ {A : Type 0} where
   pub sum-append : (f : A → ℕ) (xs ys : List A) → sumOf f (xs ++ ys) ≡ sumOf f xs + sumOf f ys
   sum-append f [] ys = omega arith
   sum-append f (x ∷ xs) ys = omega (arith, sum-append f xs ys)
+
+  -- a front and a rest
+  sum-parts : (f : A → ℕ) (n : ℕ) (xs : List A) → sumOf f (take n xs) + sumOf f (drop n xs) ≡ sumOf f xs
+  sum-parts f n xs = sym (sum-append f (take n xs) (drop n xs)) ∙ ap (sumOf f) (take-append-drop n xs)
+
+  pub sum-take-le : (f : A → ℕ) (n : ℕ) (xs : List A) → sumOf f (take n xs) ≤ sumOf f xs
+  sum-take-le f n xs = omega (arith, sum-parts f n xs)
+
+  pub sum-drop-le : (f : A → ℕ) (n : ℕ) (xs : List A) → sumOf f (drop n xs) ≤ sumOf f xs
+  sum-drop-le f n xs = omega (arith, sum-parts f n xs)
 
   pub sum-add : (f g : A → ℕ) (xs : List A) → sumOf (λ x. f x + g x) xs ≡ sumOf f xs + sumOf g xs
   sum-add f g [] = refl

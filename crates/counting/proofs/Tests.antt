@@ -62,6 +62,10 @@ module _ {A : Type 0} where
   pub any-false : (f : A → Bool) (xs : List A) → ((x : A) → List·Memᴰ x xs → f x ≡ false) → anyOf f xs ≡ false
   any-false f xs h = false-of-not-true (anyOf f xs) (λ e. let t = any-true f xs e in never-both (f (t .0)) (t .2) (h (t .0) (t .1)))
 
+  pub any-same : (f g : A → Bool) (xs : List A) → ((x : A) → f x ≡ g x) → anyOf f xs ≡ anyOf g xs
+  any-same f g [] h = refl
+  any-same f g (x ∷ xs) h = rw (h x, any-same f g xs h)
+
   pub any-append : (f : A → Bool) (xs ys : List A) → anyOf f (xs ++ ys) ≡ (anyOf f xs || anyOf f ys)
   any-append f [] ys = refl
   any-append f (x ∷ xs) ys = rw (any-append f xs ys, or-assoc)

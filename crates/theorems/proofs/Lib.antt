@@ -9,6 +9,7 @@ pub mod Clashes
 pub mod Checks
 pub mod Paths
 pub mod Accepted
+pub mod HopsOnPaths
 pub mod Travels
 pub mod Bounds
 pub mod Counts

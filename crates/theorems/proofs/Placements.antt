@@ -1,11 +1,13 @@
 -- What stands in a list of packets, or paths, with their starts.
 use mathlib.Core.Path.{_≡_, refl, ap, ap₂}
-use mathlib.Core.List.{List, [], _∷_, map}
+use mathlib.Core.List.{List, [], _∷_, _++_, map}
 use mathlib.Core.Option.{Option, some}
 use Prim.Native.Nat.{ℕ, zero, suc}
-use lib.ListN.{take, getElem?}
+use native.Mathlib.Nat.{suc-inj}
+use native.Mathlib.Omega.{arith}
+use lib.ListN.{length, take, getElem?}
 use Rattle.counting.proofs.Places.{some-same, none-not-some, at-map, at-map-split}
-use Rattle.rules.specs.Claims.{Claim, Placed, place, placed, placedBy, placedBy}
+use Rattle.rules.specs.Claims.{Claim, Placed, place, placed, placedBy}
 
 pub placed-at : (ss : List ℕ) (css : List (List Claim)) (k : ℕ) {s : ℕ} {cs : List Claim} → getElem? ss k ≡ some s → getElem? css k ≡ some cs → getElem? (placed ss css) k ≡ some (place s cs)
 unfolding placed
@@ -43,3 +45,12 @@ placed-by-split f ss ps k {b} e =
     let r = placed-split ss (map f ps) k e in
     let m = at-map-split f ps k (r .1) in
     record { packet = m .0; is-packet = m .1; is-start = r .0; is-placed = ap (place (b .start)) (m .2) }
+
+-- one more at the end
+pub placed-by-snoc : {A : Type 0} (f : A → List Claim) (ss : List ℕ) (ps : List A) (s : ℕ) (p : A) → length ss ≡ length ps
+    → placedBy f (ss ++ (s ∷ [])) (ps ++ (p ∷ [])) ≡ placedBy f ss ps ++ (place s (f p) ∷ [])
+unfolding placed
+placed-by-snoc f [] [] s p e = refl
+placed-by-snoc f [] (q ∷ ps) s p e = absurd (omega (arith, e))
+placed-by-snoc f (t ∷ ss) [] s p e = absurd (omega (arith, e))
+placed-by-snoc f (t ∷ ss) (q ∷ ps) s p e = ap {B = List Placed} (λ r. place t (f q) ∷ r) (placed-by-snoc f ss ps s p (suc-inj e))
