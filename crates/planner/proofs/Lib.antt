@@ -1,8 +1,13 @@
 pub mod PathParts
 pub mod Entering
-pub mod Searching
-pub mod Clashing
 pub mod Filling
+pub mod Searching
+pub mod RoomsOpened
+pub mod EnteringLinks
+pub mod RulingOut
+pub mod StartsFound
+pub mod EntriesKept
+pub mod Clashing
 pub mod EntrySteps
 pub mod Planning
 pub mod Differences

@@ -26,7 +26,7 @@ use Rattle.planner.proofs.Filling.{length-greedy-starts}
 
 pub job-listed : (j : Job) → IsJob j → SimplePaths (j .stops) (j .hops)
 unfolding paths
-job-listed j h = record { agree = job-stops-agree j h; few = h .hops-most; links = linkCount j; simple = packets-simple j h }
+job-listed j h = record { agree = job-stops-agree j h; few = h .hops-most; links = linkCount j; links-few = h .links-most; simple = packets-simple j h }
 
 greedy-of-lists : (j : Job) → IsJob j → greedyStarts (j .stops) (j .hops) ≡ greedy j
 unfolding greedyStarts greedy paths delayOf

@@ -1,26 +1,27 @@
--- Packets listed before one: whether they take a link in a step, and what that says of a start.
-use mathlib.Core.Path.{_≡_, sym, ap₂, _∙_}
+-- Packets listed before one: whether they take a link in a step, and how late the next one starts.
+use mathlib.Core.Path.{_≡_, refl, sym, ap₂, _∙_}
 use mathlib.Core.Bool.{true, false}
-use mathlib.Core.Logic.{⊎-elim}
-use mathlib.Core.List.{List, []}
-use Prim.Native.Nat.{ℕ, _+_, _≤_, _<_}
+use mathlib.Core.List.{List, [], _∷_}
+use mathlib.Core.Logic.{Iff·rfl}
+use Prim.Native.Nat.{ℕ, zero, suc, _+_, _≤_, _<_}
 use native.Mathlib.Omega.{arith}
-use native.Mathlib.Nat.{eq-or-lt-of-le}
+use native.Mathlib.Nat.{not-suc-le-zero, le-of-suc-le-suc}
 use lib.ListN.{length, getD, take}
-use Rattle.counting.proofs.Tests.{any-mem, any-false, never-both}
-use Rattle.counting.proofs.Places.{some-same, at-below, at-getD, at-mem, mem-at, at-take, at-take-below, mem-take}
-use Rattle.rules.specs.Sizes.{hopsMost}
+use lib.Seq.{length-slice}
+use Rattle.counting.specs.Count.{sumOf}
+use Rattle.counting.proofs.Tests.{any-mem, any-false}
+use Rattle.counting.proofs.Places.{some-same, at-getD, at-mem, mem-at, at-take, at-take-below, mem-take}
 use Rattle.rules.specs.Network.{pathsFrom}
+use Rattle.rules.specs.Tables.{stopsAgree}
 use Rattle.rules.specs.Travel.{oneStep}
-use Rattle.rules.specs.Claims.{Placed, place, takes, taken, blocked, placedBy}
-use Rattle.rules.specs.Greedy.{firstFree}
-use Rattle.theorems.proofs.Conflicts.{link-claim-at, at-link-claim, blocked-taken}
-use Rattle.theorems.proofs.OneStep.{travel-to-hop}
+use Rattle.rules.specs.Claims.{Placed, place, takes, taken, placedBy}
 use Rattle.theorems.proofs.FirstFrees.{first-free-is}
 use Rattle.theorems.proofs.Placements.{placed-by-at, placed-by-split}
 use Rattle.theorems.proofs.Accepted.{length-paths-from, hops-from}
-use Rattle.theorems.proofs.Bounds.{links-start-le-meetings, meetings-le-hops, sum-take-le}
-use Rattle.planner.specs.PacketsInLists.{SimplePaths, pathClaims, pathAt, packetEnters, before, startAfter}
+use Rattle.theorems.proofs.Bounds.{links-start-le-meetings, meetings-le-hops}
+use Rattle.theorems.proofs.Verdicts.{leb-iff, and-iff}
+use Rattle.planner.specs.PacketsInLists.{SimplePaths, pathClaims, beginFrom, pathAt, packetEnters, before}
+use Rattle.planner.proofs.Filling.{startAt}
 
 module _ (stops hops starts : List ℕ) (k : ℕ) (few : k ≤ length stops) (enough : k ≤ length starts) (link step : ℕ) where
   pub taken-by-one : (i : ℕ) → i < k → packetEnters stops hops starts i link step ≡ true → taken (before stops hops starts k) link step ≡ true
@@ -43,46 +44,25 @@ module _ (stops hops starts : List ℕ) (k : ℕ) (few : k ≤ length stops) (en
       same : {b b′ : Placed} → b ≡ b′ → takes b′ link step ≡ false → takes b link step ≡ false
       same p e = cc
 
--- ---- a start is blocked exactly if a hop's link is taken
+-- the paths of the packets before packet k have the hops up to where its own begins
+hops-before : (a : ℕ) (stops hops : List ℕ) (k : ℕ) → stopsAgree a stops (length hops) ≡ true → k ≤ length stops
+    → sumOf (λ p. length p) (take k (pathsFrom a stops hops)) + a ≡ beginFrom a stops k
+unfolding pathsFrom stopsAgree
+hops-before a stops hops zero h l = omega arith
+hops-before a [] hops (suc k) h l = absurd (not-suc-le-zero l)
+hops-before a (e ∷ es) hops (suc k) h l =
+    let (rises, rest) = and-iff (leb-iff a e) Iff·rfl .0 h in
+    omega (arith, begins k, hops-before e es hops k rest (le-of-suc-le-suc l), hops-from e es hops rest, length-slice a e hops (omega (arith, hops-from e es hops rest)), rises)
+  where
+    begins : (k : ℕ) → beginFrom e es k ≡ beginFrom a (e ∷ es) (suc k)
+    begins zero = refl
+    begins (suc k) = refl
 
-module _ (bs : List Placed) (path : List ℕ) (s : ℕ) where
-  blocked-at : (i : ℕ) → i < length path → taken bs (getD path i 0) (s + i) ≡ true → blocked bs (pathClaims path) s ≡ true
-  blocked-at i l e =
-      rw (blocked-taken bs (pathClaims path) s)
-      (any-mem (λ c. taken bs (c .resource) (s + c .offset)) (at-mem (pathClaims path) i (link-claim-at oneStep 0 path i (at-getD path i 0 l) (omega (arith, travel-to-hop i path (omega arith))))) e)
-
-  not-blocked : ((i : ℕ) → i < length path → taken bs (getD path i 0) (s + i) ≡ false) → blocked bs (pathClaims path) s ≡ false
-  not-blocked h =
-      rw (blocked-taken bs (pathClaims path) s)
-      (any-false (λ c. taken bs (c .resource) (s + c .offset)) (pathClaims path) (λ c m.
-      let (i, e) = mem-at m in
-      let (there, offset) = at-link-claim oneStep 0 path i e in
-      let l = at-below path i there in
-      let link : getD path i 0 ≡ c .resource = some-same (sym (at-getD path i 0 l) ∙ there) in
-      let step : s + i ≡ s + c .offset = omega (arith, offset, travel-to-hop i path (omega arith)) in
-      same link step (h i l)))
-    where
-      same : {l l′ t t′ : ℕ} → l ≡ l′ → t ≡ t′ → taken bs l t ≡ false → taken bs l′ t′ ≡ false
-      same p q e = cc
-
-  -- at a conflict the first free step lies further on
-  pub first-free-after : (i : ℕ) → i < length path → s ≤ firstFree bs (pathClaims path) → taken bs (getD path i 0) (s + i) ≡ true → s < firstFree bs (pathClaims path)
-  first-free-after i l h e =
-      ⊎-elim
-      (λ q. absurd (never-both (blocked bs (pathClaims path) s) (blocked-at i l e) (rw q (first-free-is bs (pathClaims path) .free))))
-      (λ m. m) (eq-or-lt-of-le h)
-
-  -- and where no hop conflicts, it is this one
-  pub first-free-here : s ≤ firstFree bs (pathClaims path) → ((i : ℕ) → i < length path → taken bs (getD path i 0) (s + i) ≡ false) → s ≡ firstFree bs (pathClaims path)
-  first-free-here h free =
-      ⊎-elim (λ q. q) (λ m. absurd (never-both (blocked bs (pathClaims path) s) (first-free-is bs (pathClaims path) .least s m) (not-blocked free))) (eq-or-lt-of-le h)
-
--- no start lies further than there are hops
-pub start-after-le : (stops hops starts : List ℕ) → SimplePaths stops hops → length starts < length stops → startAfter stops hops starts ≤ hopsMost
-unfolding startAfter before pathAt
-start-after-le stops hops starts h l =
+-- no start lies further than there are hops before it
+pub start-le-begin : (stops hops starts : List ℕ) (k : ℕ) → SimplePaths stops hops → k < length stops → startAt stops hops starts k ≤ beginFrom 0 stops k
+unfolding before pathAt
+start-le-begin stops hops starts k h l =
     let ps = pathsFrom 0 stops hops in
-    let k = length starts in
     let p = getD ps k [] in
     let qs = take k ps in
     let own = at-mem ps k (at-getD ps k [] (omega (arith, length-paths-from 0 stops hops))) in
@@ -90,24 +70,5 @@ start-after-le stops hops starts h l =
       arith,
       links-start-le-meetings oneStep (h .links) (take k starts) qs p _ (λ q m. h .simple q (mem-take k ps m)) (h .simple p own) (first-free-is (placedBy pathClaims (take k starts) qs) (pathClaims p)),
       meetings-le-hops (h .links) qs p,
-      sum-take-le (λ q. length q) k ps,
-      hops-from 0 stops hops (h .agree),
-      h .few,
+      hops-before 0 stops hops k (h .agree) (omega arith),
     )
-
--- ---- the two ways out of the hops of one start
-
-module _ (stops hops starts path : List ℕ) (is-path : path ≡ pathAt stops hops (length starts)) (s : ℕ) (reached : s ≤ startAfter stops hops starts) where
-  pub start-passed : (j i link step : ℕ) → length starts ≤ length stops → j < length starts → i < length path → link ≡ getD path i 0 → step ≡ s + i → packetEnters stops hops starts j link step ≡ true → s < startAfter stops hops starts
-  unfolding startAfter
-  start-passed j i link step few l m is-link is-step e =
-      let k = length starts in
-      let t : taken (before stops hops starts k) link step ≡ true = taken-by-one stops hops starts k few (omega arith) link step j l e in
-      first-free-after (before stops hops starts k) (pathAt stops hops k) s i (rw is-path at m) reached (at-hop t)
-    where
-      at-hop : taken (before stops hops starts (length starts)) link step ≡ true → taken (before stops hops starts (length starts)) (getD (pathAt stops hops (length starts)) i 0) (s + i) ≡ true
-      at-hop t = rw (← is-path, ← is-link, ← is-step) t
-
-  pub start-found : ((i : ℕ) → i < length path → taken (before stops hops starts (length starts)) (getD path i 0) (s + i) ≡ false) → s ≡ startAfter stops hops starts
-  unfolding startAfter
-  start-found free = first-free-here (before stops hops starts (length starts)) (pathAt stops hops (length starts)) s reached (rw is-path at free)

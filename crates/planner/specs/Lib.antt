@@ -1,2 +1,3 @@
 pub mod PacketsInLists
+pub mod Entries
 pub mod Told

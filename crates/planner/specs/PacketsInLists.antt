@@ -5,20 +5,21 @@ use mathlib.Core.List.{List, [], map, List·Memᴰ}
 use mathlib.Core.Option.{Option}
 use Prim.Native.Nat.{ℕ, zero, suc, _≤_}
 use lib.ListN.{length, getD, take}
-use Rattle.rules.specs.Sizes.{hopsMost}
+use Rattle.rules.specs.Sizes.{linksMost, hopsMost}
 use Rattle.rules.specs.Network.{pathsFrom}
 use Rattle.rules.specs.Tables.{stopsAgree}
 use Rattle.rules.specs.Travel.{oneStep}
 use Rattle.rules.specs.Claims.{Claim, linkClaims, Placed, place, placedBy, takes}
-use Rattle.rules.specs.Greedy.{firstFree, greedyAfter}
+use Rattle.rules.specs.Greedy.{greedyAfter}
 use Rattle.rules.specs.Check.{Clash, clashOf}
 use Rattle.theorems.specs.Simple.{Simple}
 
--- the stops fit the hops, which are few, and every path is simple: so it is in an accepted job
+-- the stops fit the hops, which are few as the links are, and every path is simple: so it is in an accepted job
 pub record SimplePaths (stops hops : List ℕ) : Type 0 where
   pub agree : stopsAgree 0 stops (length hops) ≡ true
   pub few : length hops ≤ hopsMost
   pub links : ℕ
+  pub links-few : links ≤ linksMost
   pub simple : (p : List ℕ) → List·Memᴰ p (pathsFrom 0 stops hops) → Simple links p
 
 -- what a packet with this path claims: its links, each a step after the one before
@@ -41,10 +42,6 @@ packetEnters stops hops starts j link step = takes (place (getD starts j 0) (pat
 -- the packets listed before packet k, with their starts
 unfoldable pub before : List ℕ → List ℕ → List ℕ → ℕ → List Placed
 before stops hops starts k = placedBy pathClaims (take k starts) (take k (pathsFrom 0 stops hops))
-
--- the start of the packet that comes after those with starts
-unfoldable pub startAfter : List ℕ → List ℕ → List ℕ → ℕ
-startAfter stops hops starts = firstFree (before stops hops starts (length starts)) (pathClaims (pathAt stops hops (length starts)))
 
 -- the greedy starts of all packets
 unfoldable pub greedyStarts : List ℕ → List ℕ → List ℕ

@@ -3,10 +3,10 @@ ghost use mathlib.Core.Path.{_≡_};
 ghost use mathlib.Core.Bool.{true};
 ghost use mathlib.Core.List.{[], _++_};
 ghost use mathlib.Core.Option.{some};
-ghost use Prim.Native.Nat.{_≤_, _<_};
+ghost use Prim.Native.Nat.{_*_, _≤_, _<_};
 ghost use lib.ListN.{length, drop};
 ghost use Rattle.rules.specs.Handed.{given, left};
-ghost use Rattle.rules.specs.Sizes.{packetsMost};
+ghost use Rattle.rules.specs.Sizes.{packetsMost, hopsMost};
 ghost use Rattle.rules.specs.Network.{pathsFrom};
 ghost use Rattle.rules.specs.Outcome.{is};
 ghost use Rattle.rules.specs.Travel.{oneStep};
@@ -16,12 +16,24 @@ ghost use Rattle.rules.specs.Lead.{entryAt, leadOf};
 ghost use Rattle.rules.specs.Answers.{planned, checked, led};
 ghost use Rattle.job.specs.Lists.{jobIn};
 ghost use Rattle.planner.specs.Told.{enteredOf, checkedOf, clearOr, ledOf, PlannedAs, Near};
-ghost use Rattle.planner.specs.PacketsInLists.{SimplePaths, pathClaims, beginFrom, pathAt, packetEnters, before, startAfter, greedyStarts, clashAt};
+ghost use Rattle.planner.specs.PacketsInLists.{SimplePaths, pathClaims, beginFrom, pathAt, packetEnters, before, greedyStarts, clashAt};
+ghost use Rattle.planner.specs.Entries.{EntriesBefore};
+
+mod entries;
+
+use entries::count;
+use entries::enter;
+use entries::open;
+use entries::search;
 use job::Hop;
+use job::Job;
 use job::Refusal;
 use job::Step;
 use job::Verdict;
 use job::wide;
+
+// Words for the starts that are marked: no start lies further than there are hops.
+const WORDS: usize = Job::HOPS / 64 + 1;
 
 // Where packet k's path begins in the hops.
 fn begin(stops: &[u16], k: usize) -> usize
@@ -83,32 +95,35 @@ fn taken(stops: &[u16], hops: &[u16], starts: &[u16], k: usize, link: u16, step:
     false
 }
 
-// The first step at which packet k, the one after those with starts, conflicts with none of them.
-fn search(stops: &[u16], hops: &[u16], starts: &[u16]) -> u16
-    requires { ⌜ SimplePaths (now stops) (now hops) × (length (now starts) < length (now stops)) ⌝ }
-    ensures { λ r. ⌜ r ≡ startAfter (given stops) (given hops) (given starts) ⌝ }
+// Starts one packet after the other, over the first places: each searches among the entries of those before it and then adds its own.
+fn start_each(
+    stops: &[u16],
+    hops: &[u16],
+    starts: &mut [u16],
+    firsts: &[u16],
+    nexts: &mut [u16],
+    steps: &mut [u16],
+    words: &mut [u64],
+)
+    requires { ⌜ SimplePaths (now stops) (now hops) × (length (now stops) ≤ length (now starts))
+        × EntriesBefore (now stops) (now hops) (now starts) 0 (now firsts) (now nexts) (now steps) × (hopsMost < 64 * length (now words)) ⌝ }
+    ensures { λ _. ⌜ left starts ≡ greedyStarts (given stops) (given hops) ++ drop (length (given stops)) (given starts) ⌝ }
 {
-    let k = starts.len();
-    let path_k = path(stops, hops, k);
-    let mut start: u16 = 0;
-    'search: loop {
-        let mut hop: usize = 0;
-        'hops: loop {
-            if hop == path_k.len() {
-                break 'search start;
-            }
-            let link = path_k[hop];
-            let step = Step::of(start, Hop(hop as u16));
-            let mut j = 0;
-            while j < k {
-                if packet_enters(stops, hops, starts, j, link, step) {
-                    break 'hops;
-                }
-                j += 1;
-            }
-            hop += 1;
-        }
-        start += 1;
+    let mut k = 0;
+    while k < stops.len() {
+        let path_k = path(stops, hops, k);
+        // no start lies further than there are hops before it
+        let enough = begin(stops, k) / 64 + 1;
+        let start = search(
+            path_k,
+            firsts,
+            &nexts[..],
+            &steps[..],
+            &mut words[0..enough],
+        ) as u16;
+        starts[k] = start;
+        enter(path_k, start, &mut nexts[..], &mut steps[..]);
+        k += 1;
     }
 }
 
@@ -117,12 +132,21 @@ fn fill(stops: &[u16], hops: &[u16], starts: &mut [u16])
     requires { ⌜ SimplePaths (now stops) (now hops) × (length (now stops) ≤ length (now starts)) ⌝ }
     ensures { λ _. ⌜ left starts ≡ greedyStarts (given stops) (given hops) ++ drop (length (given stops)) (given starts) ⌝ }
 {
-    let mut k = 0;
-    while k < stops.len() {
-        let start = search(stops, hops, &starts[0..k]);
-        starts[k] = start;
-        k += 1;
-    }
+    let mut firsts = [0u16; Job::LINKS];
+    let mut nexts = [0u16; Job::LINKS];
+    let mut steps = [0u16; Job::HOPS];
+    let mut words = [0u64; WORDS];
+    count(hops, &mut nexts[..]);
+    open(hops.len(), &mut firsts[..], &mut nexts[..]);
+    start_each(
+        stops,
+        hops,
+        starts,
+        &firsts[..],
+        &mut nexts[..],
+        &mut steps[..],
+        &mut words[..],
+    );
 }
 
 // Where packet k is when it enters the link, if it does.

@@ -8,7 +8,7 @@ use Prim.Native.Nat.{ℕ, zero, suc, pred, _+_, _*_, _≤_, _<_}
 use native.Mathlib.Omega.{arith}
 use native.Mathlib.Nat.{le-trans, le-pred-of-lt, mul-le-mul-left}
 use lib.Dec.{eqb}
-use lib.ListN.{length, take, drop, getD, getElem?, take-append-drop}
+use lib.ListN.{length, take, drop, getD, getElem?}
 use lib.Seq.{split-at}
 use borrow.Author.Tests.{eq-eqb, eqb-true}
 use Rattle.counting.specs.Count.{bit, among, occurs, sumOf, hits, maxBelow}
@@ -175,9 +175,6 @@ meetings-le-hops n qs p = sum-le _ _ qs (λ q m. le-trans (sum-below-le _ _ n (�
           sum-le (λ x. hits (λ l. eqb x l) n) (λ x. 1) q (λ x m. hits-once (λ l. eqb x l) (λ i k a b. omega (arith, eqb-true)) n),
           sum-const 1 q,
         )
-
-pub sum-take-le : (f : List ℕ → ℕ) (n : ℕ) (ps : List (List ℕ)) → sumOf f (take n ps) ≤ sumOf f ps
-sum-take-le f n ps = omega (arith, sum-append f (take n ps) (drop n ps), ap (sumOf f) (take-append-drop n ps))
 
 pub length-meetings-after : (n : ℕ) (before ps : List (List ℕ)) → length (meetingsAfter n before ps) ≡ length ps
 unfolding meetingsAfter

@@ -90,7 +90,7 @@ conflict-sym c = record { at = c .other-at; other-at = c .at; resource = c .reso
 -- ---- what this card's packets claim means what they take
 
 -- the link at a hop is claimed after the steps of those before it
-pub link-claim-at : (delay : ℕ → ℕ) (o : ℕ) (path : List ℕ) (hop : ℕ) {link offset : ℕ} → getElem? path hop ≡ some link → o + travel delay (take hop path) ≡ offset
+link-claim-at : (delay : ℕ → ℕ) (o : ℕ) (path : List ℕ) (hop : ℕ) {link offset : ℕ} → getElem? path hop ≡ some link → o + travel delay (take hop path) ≡ offset
     → getElem? (linkClaims delay o path) hop ≡ some (record { resource = link; offset = offset })
 unfolding linkClaims travel
 link-claim-at delay o [] hop e d = absurd (none-not-some e)
@@ -98,7 +98,7 @@ link-claim-at delay o (l ∷ ls) zero {offset = offset} e d = let d₀ : o ≡ o
 link-claim-at delay o (l ∷ ls) (suc hop) e d = link-claim-at delay (o + delay l) ls hop e (omega arith)
 
 -- and links claim nothing else
-pub at-link-claim : (delay : ℕ → ℕ) (o : ℕ) (path : List ℕ) (hop : ℕ) {c : Claim} → getElem? (linkClaims delay o path) hop ≡ some c
+at-link-claim : (delay : ℕ → ℕ) (o : ℕ) (path : List ℕ) (hop : ℕ) {c : Claim} → getElem? (linkClaims delay o path) hop ≡ some c
     → (getElem? path hop ≡ some (c .resource)) × (o + travel delay (take hop path) ≡ c .offset)
 unfolding linkClaims travel
 at-link-claim delay o [] hop e = absurd (none-not-some e)

@@ -5,6 +5,7 @@ use mathlib.Core.Option.{some}
 use Prim.Native.Nat.{ℕ, _*_, _≤_}
 use native.Mathlib.Omega.{arith}
 use lib.ListN.{length, take, getD, getElem?}
+use Rattle.counting.proofs.Sums.{sum-take-le}
 use Rattle.counting.proofs.Places.{take-map, at-map, at-map-split, at-mem, mem-at, mem-take, at-below, at-getD}
 use Rattle.rules.specs.Network.{Packet, Job, paths, packets}
 use Rattle.rules.specs.Travel.{delayIn}
@@ -26,7 +27,7 @@ use Rattle.theorems.proofs.Accepted.{tables-fine-iff, hops-in-all, job-
 use Rattle.theorems.proofs.TextJobs.{reading-job}
 use Rattle.theorems.proofs.Counts.{travel-le-dilation}
 use Rattle.theorems.proofs.Travels.{hops-le-travel}
-use Rattle.theorems.proofs.Bounds.{Once, load-lt, start-le-meetings-with, first-free-end-le-product, routing-time-le, meetings-at, meetings-le-hops, length-meetings-after, sum-take-le}
+use Rattle.theorems.proofs.Bounds.{Once, load-lt, start-le-meetings-with, first-free-end-le-product, routing-time-le, meetings-at, meetings-le-hops, length-meetings-after}
 
 module _ (j : Job) (job : IsJob j) where
   -- every packet of the job is on a path

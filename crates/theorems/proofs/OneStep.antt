@@ -21,7 +21,7 @@ pub travel-hops : (ls : List ℕ) → travel oneStep ls ≡ length ls
 unfolding travel
 travel-hops ls = omega (arith, sum-const {A = ℕ} 1 ls)
 
-pub travel-to-hop : (p : ℕ) (ls : List ℕ) → p ≤ length ls → travel oneStep (take p ls) ≡ p
+travel-to-hop : (p : ℕ) (ls : List ℕ) → p ≤ length ls → travel oneStep (take p ls) ≡ p
 travel-to-hop p ls l = omega (arith, travel-hops (take p ls), length-take-le p ls l)
 
 pub enters-iff : (s : ℕ) (path : List ℕ) (p link step : ℕ) → Enters oneStep s path p link step ↔ ((getElem? path p ≡ some link) × (s + p ≡ step))

@@ -1,62 +1,48 @@
--- `planner::fill` meets its contract: before packet k the list is the first k greedy starts, and then what was lent.
-use mathlib.Core.Path.{_≡_, refl, _∙_}
-use mathlib.Core.List.{_++_}
-use Prim.Native.Nat.{_-_, _≤_}
+-- `planner::fill` meets its contract: each link has room for its load, and nobody has entered one yet.
+use mathlib.Core.Path.{refl, sym, _∙_}
+use native.Mathlib.Nat.{zero-add}
 use native.Mathlib.Omega.{arith}
 use borrow.Author.Needs.{needs}
-use denote.Ref.{now}
-use lib.ListN.{length, take, drop, length-take, length-set}
-use Rattle.planner.specs.PacketsInLists.{greedyStarts}
-use Rattle.planner.proofs.Filling.{one-more, all-written}
+use Rattle.counting.proofs.Places.{zero-at}
+use Rattle.rules.specs.Sizes.{linksMost}
+use Rattle.planner.proofs.EntriesKept.{hops-below, entries-none}
 use Rattle.planner.proofs.fill.Statement.{statement}
 use Rattle.planner.proofs.fill.Tie as tie
 
-abbrev Inv-loop : tie.InvT-loop
-Inv-loop stops hops starts₀ k₀ starts k = (k ≤ length stops) × (length starts ≡ length starts₀) × (starts ≡ take k (greedyStarts stops hops) ++ drop k starts₀)
+count-requires : tie.Need-count-requires
+count-requires c κs = let s = c .before .before .before .before in (hops-below _ _ (s .pre .0), omega (arith, s .pre .0 .few))
 
-abbrev μ-loop : tie.MeasureT-loop
-μ-loop stops hops starts₀ k₀ starts k = length stops - k
+open-requires : tie.Need-open-requires
+open-requires c κs =
+    let s = c .before .before .before .before .before .before .before .before in
+    let n = c .before .before .before in
+    (n .count .ensures .1 ∙ zero-add _, omega (arith, s .pre .0 .few), sym (n .count .kept .1 .0), zero-at linksMost)
 
-loop-holds : tie.Need-loop-holds Inv-loop μ-loop
-loop-holds c = (omega arith, refl, refl)
-
-search-requires : tie.Need-search-requires Inv-loop μ-loop
-search-requires c κs =
-    let l = c .before .before .before in
-    (l .before .before .before .before .pre .0, omega (arith, length-take (l .loop .k - 0) (l .loop .starts)))
-
-loop-less : tie.Need-loop-less Inv-loop μ-loop
-loop-less c = search needs
-
-loop-again : tie.Need-loop-again Inv-loop μ-loop
-loop-again c =
-    let l = c .before .before .before .before in
-    let a = l .before .before .before .before in
-    let z : l .loop .k - 0 ≡ l .loop .k = omega arith in
-    (omega arith, simp length-set (l .loop .inv .1), one-more _ _ _ _ _ (omega arith) (a .pre .1) (l .loop .inv .2) _ (rw z at (c .search .ensures)))
-
-returns : tie.Need-returns Inv-loop μ-loop
-returns c =
-    let l = c .before in
-    let a = l .before .before .before .before in
-    let all : l .loop .k ≡ length (now (a .args .stops)) = omega arith in
-    l .loop .inv .2 ∙ rw (all, all-written)
+start-each-requires : tie.Need-start-each-requires
+start-each-requires c κs =
+    let s = c .before .before .before .before .before .before .before .before .before .before .before .before .before .before .before .before in
+    let n = c .before .before .before .before .before .before .before .before .before .before .before in
+    let o = c .before .before .before .before .before .before .before in (
+      s .pre .0,
+      s .pre .1,
+      entries-none _ _ _ _ _ _ (n .count .last .1 .0) (s .pre .0 .few) (λ link. n .count .ensures .0 link ∙ rw (zero-at linksMost link) (zero-add _))
+          (o .«open» .ensures .0) (o .«open» .ensures .1) (o .«open» .kept .1 .0) (o .«open» .kept .1 .1 .0 ∙ n .count .kept .1 .0) refl,
+      omega arith,
+    )
 
 pub fill-spec : {M : Type 1} → statement M
 fill-spec =
     tie.close
     (tie.spec
-    Inv-loop
-    μ-loop
-    loop-holds
+    (λ c. search needs)
+    count-requires
+    (λ c. search needs)
+    (λ c. search needs)
+    open-requires
     (λ c. search needs)
     (λ c. search needs)
     (λ c. search needs)
-    search-requires
     (λ c. search needs)
+    start-each-requires
     (λ c. search needs)
-    (λ c. search needs)
-    loop-less
-    loop-again
-    (λ c. search needs)
-    returns)
+    (λ c. search needs))
