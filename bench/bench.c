@@ -174,6 +174,23 @@ static void ladder(int packets)
     }
 }
 
+/* Rows of their own, with two packets along each: many hops, and few meetings. */
+static void rows(int packets)
+{
+    enum { LENGTH = 4 };
+    int count = packets / 2;
+    add("N\t%d\n", LENGTH + 1);
+    for (int row = 0; row < count; row++)
+        for (int hop = 0; hop < LENGTH; hop++)
+            add("L\t%d\t%d\n", hop, hop + 1);
+    for (int k = 0; k < packets; k++) {
+        add("P\t0");
+        for (int hop = 0; hop < LENGTH; hop++)
+            add("\t%d", k / 2 * LENGTH + hop);
+        add("\n");
+    }
+}
+
 static void links_only(void)
 {
     add("N\t1024\n");
@@ -197,6 +214,8 @@ static void make(const char *name, int packets)
         cube();
     else if (strcmp(name, "prefixes") == 0)
         prefixes(packets);
+    else if (strcmp(name, "rows") == 0)
+        rows(packets);
     else if (strcmp(name, "ladder") == 0)
         ladder(packets);
     else
@@ -261,28 +280,50 @@ static int by_size(const void *a, const void *b)
     return x < y ? -1 : x > y;
 }
 
-/* Microseconds of each, as medians of runs in turn. A run repeats a call until it has taken two milliseconds. Where one round of runs
- * takes seconds there are fewer. */
-enum { RUNS = 15, ENOUGH = 20000000 };
+/* The parts: those of the planner, and those of fast.c, which looks at no tables apart from reading. */
+enum { READ_PART, TABLES_PART, SEARCH_PART, WRITE_PART, PARTS };
+static const char *const part_name[PARTS] = { "read", "tables", "search", "write" };
 
-static void measure(double *median)
+typedef struct {
+    double plan, fast, part[PARTS], fast_part[PARTS];
+} times;
+
+static times parts_of(const double *t)
 {
-    static double took[TIMED][RUNS];
+    return (times){ t[PLAN], t[FAST], { t[READ], 2 * t[TABLES], t[STARTS] - t[TABLES], t[TEXT] - t[TABLES] },
+                    { t[FAST_READ], 0, t[FAST_SEARCH] - t[FAST_READ], t[FAST_WRITE] } };
+}
+
+/* Microseconds of each, as medians of rounds. In a round each is run in turn, and a run repeats a call until it has taken two
+ * milliseconds. A part that is a difference is taken within a round, so that a processor that changes its speed from round to round
+ * does no harm. Where one round takes seconds there are fewer. */
+enum { ROUNDS = 31, ENOUGH = 20000000, NUMBERS = sizeof(times) / sizeof(double) };
+
+static times measure(void)
+{
+    static double took[NUMBERS][ROUNDS];
     double first = now();
-    int runs = 0;
-    for (int i = 0; i < RUNS && (i < 1 || now() - first < ENOUGH); i++, runs++)
+    int rounds = 0;
+    for (; rounds < ROUNDS && (rounds < 1 || now() - first < ENOUGH); rounds++) {
+        double t[TIMED];
         for (int f = 0; f < TIMED; f++) {
             double begun = now();
-            int times = 0;
+            int calls = 0;
             do
-                timed[f](), times++;
+                timed[f](), calls++;
             while (now() - begun < 2000);
-            took[f][i] = (now() - begun) / times;
+            t[f] = (now() - begun) / calls;
         }
-    for (int f = 0; f < TIMED; f++) {
-        qsort(took[f], (size_t)runs, sizeof took[f][0], by_size);
-        median[f] = took[f][runs / 2];
+        times round = parts_of(t);
+        for (int i = 0; i < NUMBERS; i++)
+            took[i][rounds] = ((const double *)&round)[i];
     }
+    times median;
+    for (int i = 0; i < NUMBERS; i++) {
+        qsort(took[i], (size_t)rounds, sizeof took[i][0], by_size);
+        ((double *)&median)[i] = took[i][rounds / 2];
+    }
+    return median;
 }
 
 /* Both must print the same plan. */
@@ -302,31 +343,52 @@ static void agree(const char *name)
 
 /* ---- The table ---- */
 
-enum { READ_PART, TABLES_PART, SEARCH_PART, WRITE_PART, PARTS };
-static const char *const part_name[PARTS] = { "read", "tables", "search", "write" };
 static double planner_sum[PARTS], fast_sum[PARTS];
 
 static const char *only; /* the one kind of job that is asked for, or null */
 
+/* The search against that of fast.c, by itself: where there is enough of it, and from few packets on one link to many. It grows no
+ * more than that of fast.c if it takes no more times as long with many packets than with few. */
+enum { MANY_MEETINGS = 1000, FEW_PACKETS = 128, MANY_PACKETS = 1024 };
+static double greatest;
+static char greatest_job[100];
+static double few, many; /* on one link */
+
+static void compare_search(const char *name, const char *shown, int packets, double planner, double fast)
+{
+    if (fast_meetings() > MANY_MEETINGS && planner / fast > greatest) {
+        greatest = planner / fast;
+        snprintf(greatest_job, sizeof greatest_job, "%s", shown);
+    }
+    if (strcmp(name, "one link") == 0 && (packets == FEW_PACKETS || packets == MANY_PACKETS))
+        *(packets == FEW_PACKETS ? &few : &many) = planner / fast;
+}
+
+static void tell_search(void)
+{
+    if (greatest > 0)
+        printf("\nSearch to search, jobs of over %d meetings: at most %.2f times fast.c (%s).\n", MANY_MEETINGS, greatest, greatest_job);
+    if (few > 0 && many > 0)
+        printf("Search to search on one link: %.2f times fast.c with %d packets, %.2f times with %d.\n", few, FEW_PACKETS, many, MANY_PACKETS);
+}
+
 static void line(const char *name, const char *shown, int packets)
 {
-    double t[TIMED];
     if (only && strcmp(only, name) != 0)
         return;
     make(name, packets);
     make_lists();
     agree(name);
-    measure(t);
-    const double part[PARTS] = { t[READ], 2 * t[TABLES], t[STARTS] - t[TABLES], t[TEXT] - t[TABLES] };
-    const double fast_part[PARTS] = { t[FAST_READ], 0, t[FAST_SEARCH] - t[FAST_READ], t[FAST_WRITE] };
-    printf("| %s | %zu | %zu | %.0f | %.0f | %.1f |", shown, bytes, fast_meetings(), t[PLAN], t[FAST], t[PLAN] / t[FAST]);
+    times t = measure();
+    printf("| %s | %zu | %zu | %.0f | %.0f | %.1f |", shown, bytes, fast_meetings(), t.plan, t.fast, t.plan / t.fast);
     for (int p = 0; p < PARTS; p++) {
-        printf(" %.0f |", part[p]);
-        planner_sum[p] += part[p];
-        fast_sum[p] += fast_part[p];
+        printf(" %.0f |", t.part[p]);
+        planner_sum[p] += t.part[p];
+        fast_sum[p] += t.fast_part[p];
     }
-    printf(" %.0f | %.0f | %.0f |\n", fast_part[READ_PART], fast_part[SEARCH_PART], fast_part[WRITE_PART]);
+    printf(" %.0f | %.0f | %.0f |\n", t.fast_part[READ_PART], t.fast_part[SEARCH_PART], t.fast_part[WRITE_PART]);
     fflush(stdout);
+    compare_search(name, shown, packets, t.part[SEARCH_PART], t.fast_part[SEARCH_PART]);
 }
 
 /* Reading and looking at tables are one part of fast.c, so they are held against it together. */
@@ -346,10 +408,10 @@ static void furthest(void)
 
 int main(int words, char **word)
 {
-    static const int packets[] = { 128, 256, 512, 1024 };
+    static const int packets[] = { FEW_PACKETS, 256, 512, MANY_PACKETS };
     char shown[100];
     only = words > 1 ? word[1] : NULL;
-    printf("Times in microseconds, medians of up to %d runs in turn; ratio: planner to fast.c.\n\n", RUNS);
+    printf("Times in microseconds, medians of up to %d rounds; ratio: planner to fast.c.\n\n", ROUNDS);
     printf("| job | bytes | meetings | planner | fast.c | ratio |");
     for (int p = 0; p < PARTS; p++)
         printf(" %s |", part_name[p]);
@@ -359,6 +421,7 @@ int main(int words, char **word)
     line("one path", "1,024 packets on one path of 16 links", 1024);
     line("long paths", "64 paths of 255 hops", 64);
     line("cube", "cube of 8 dimensions, 256 packets", 256);
+    line("rows", "512 rows of 4 links, two packets along each", 1024);
     line("links only", "4,096 links, no packet", 0);
     line("prefixes", "1,024 packets of 12 hops, 60 ways to one last link", 1024);
     line("ladder", "ladder of 8 shared links, 885 packets", 885);
@@ -370,6 +433,7 @@ int main(int words, char **word)
         sprintf(shown, "growth: one link, %d packets", packets[i]);
         line("one link", shown, packets[i]);
     }
+    tell_search();
     if (!only)
         furthest();
     return 0;
