@@ -50,12 +50,12 @@ pub record Parts (firsts nexts : List ℕ) (n : ℕ) : Type 0 where
 abbrev pub Searchable : (path firsts nexts : List ℕ) → ℕ → Type 0
 Searchable path firsts nexts n = Below path (length firsts) × (length firsts ≡ length nexts) × Parts firsts nexts n × (length path ≤ widest)
 
--- the words after the starts were marked that are ruled out: among the starts of the words, those are marked and those that were
+-- the words once the starts are marked that are ruled out: a start that they have a bit for is marked if it was, or if it is ruled out
 abbrev pub MarksAdded : (path firsts nexts steps words words′ : List ℕ) → Type 0
 MarksAdded path firsts nexts steps words words′ =
     (s : ℕ) → s < 64 * length words → marked words′ s ≡ (marked words s || ruledOut firsts nexts steps (pathClaims path) s)
 
--- r is the first free step of the path, against whatever packets the entries are of, where it is a start of so many words
+-- r is the first free step of the path against whatever packets the entries are of, if so many words have a bit for it
 abbrev pub FoundAmong : (path firsts nexts steps : List ℕ) (words r : ℕ) → Type 0
 FoundAmong path firsts nexts steps words r =
     (bs : List Placed) → EntriesOf bs firsts nexts steps → firstFree bs (pathClaims path) < 64 * words → r ≡ firstFree bs (pathClaims path)

@@ -70,8 +70,8 @@ fn rule_out(path: &[u16], firsts: &[u16], nexts: &[u16], steps: &[u16], words: &
     }
 }
 
-// The first step at which a packet on this path conflicts with none of those that stand. It is found if it is a start of the words, of
-// which each has 64.
+// The first step at which a packet on this path conflicts with none of those that stand. It is found if the words have a bit for it; what
+// stood in them is gone.
 pub(crate) fn search(
     path: &[u16],
     firsts: &[u16],
