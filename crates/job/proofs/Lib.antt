@@ -1,3 +1,4 @@
 pub mod AfterVerdict
 pub mod VerdictLoops
 pub mod OneAnswer
+pub mod VisitedMarks

@@ -34,7 +34,7 @@ must-and true t n p o = refl
 must-and false t n p o = refl
 
 -- the nodes entered by the first links, one more
-entered-more : (ends path : List ℕ) (p : ℕ) → p < length path → entered ends (take (p + 1) path) ≡ entered ends (take p path) ++ (getD ends (getD path p 0) 0 ∷ [])
+pub entered-more : (ends path : List ℕ) (p : ℕ) → p < length path → entered ends (take (p + 1) path) ≡ entered ends (take p path) ++ (getD ends (getD path p 0) 0 ∷ [])
 unfolding entered
 entered-more ends path p h = rw (add-one, take-suc path p 0, map-append)
 

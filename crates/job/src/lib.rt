@@ -6,12 +6,13 @@ ghost use Prim.Native.Nat.{ℕ, _+_, _≤_, _<_};
 ghost use lib.ListN.{length, getD, take};
 ghost use Rattle.counting.specs.Count.{among};
 ghost use Rattle.rules.specs.Handed.{given};
-ghost use Rattle.rules.specs.Sizes.{nodesMost, linksMost, packetsMost, pathMost, hopsMost, textMost, startMost};
+ghost use Rattle.rules.specs.Sizes.{nodesMost, linksMost, packetsMost, pathMost, hopsMost, textMost, planMost, startMost};
 ghost use Rattle.rules.specs.Network.{paths};
 ghost use Rattle.rules.specs.Tables.{linkVerdict, walk as walkVerdict, packetVerdict, linksVerdict, packetsVerdict, stopsAgree, tables as tablesVerdict};
 ghost use Rattle.rules.specs.Answers.{startsVerdict, startedVerdict};
 ghost use Rattle.job.specs.Lists.{networkOf, networkIn, jobIn, entered, sizesFit};
 ghost use Rattle.job.specs.Told.{numberPlace, verdictOf};
+ghost use Rattle.job.specs.Visited.{MarkedAs};
 
 // The counts of a job whose lists stand beside it.
 pub struct Job {
@@ -34,6 +35,8 @@ impl Job {
     pub const HOPS: usize = 16384;
     // bytes of a job's text, and of a plan's that is read back
     pub const TEXT: usize = 65535;
+    // bytes that no plan's text exceeds
+    pub const PLAN: usize = 19473;
     // the latest start that may be handed in
     pub const START: u16 = 32767;
 
@@ -74,12 +77,21 @@ impl Job {
         Job::TEXT
     }
 
+    pub fn plan_most() -> usize
+        ensures { λ r. ⌜ r ≡ planMost ⌝ }
+    {
+        Job::PLAN
+    }
+
     pub fn start_most() -> u16
         ensures { λ r. ⌜ r ≡ startMost ⌝ }
     {
         Job::START
     }
 }
+
+// Words with a bit for each node of a job.
+const NODE_WORDS: usize = 16;
 
 // A position along a path.
 pub struct Hop(pub u16);
@@ -206,10 +218,25 @@ fn visited(ends: &[u16], path: &[u16], count: usize, source: u16, node: u16) -> 
     false
 }
 
+// The same by the node's mark, where it has one: a node of a job does.
+fn seen(words: &[u64], ends: &[u16], path: &[u16], count: usize, source: u16, node: u16) -> bool
+    requires { ⌜ (count ≤ length (now path)) × ((q : ℕ) → q < count → getD (now path) q 0 < length (now ends))
+        × MarkedAs (source ∷ entered (now ends) (take count (now path))) (now words) ⌝ }
+    ensures { λ r. ⌜ r ≡ among node (source ∷ entered (given ends) (take count (given path))) ⌝ }
+{
+    let bit = wide(node);
+    if bit < Job::NODES {
+        return marks::is_marked(words, bit);
+    }
+    visited(ends, path, count, source, node)
+}
+
 // The path hop by hop, from its source.
 fn walk(origins: &[u16], ends: &[u16], path: &[u16], source: u16, place: u32) -> Verdict
     ensures { λ r. ⌜ ((n : ℕ) → verdictOf r ≡ walkVerdict (networkOf n (given origins) (given ends)) place source (source ∷ []) (given path)) ⌝ }
 {
+    let mut words = [0u64; NODE_WORDS];
+    marks::mark(&mut words, wide(source));
     let mut reached = source;
     let mut p = 0;
     while p < path.len() {
@@ -224,9 +251,10 @@ fn walk(origins: &[u16], ends: &[u16], path: &[u16], source: u16, place: u32) ->
             return Verdict::Refused(Refusal::NotLeaving(place));
         }
         let node = ends[link];
-        if visited(ends, path, p, source, node) {
+        if seen(&words, ends, path, p, source, node) {
             return Verdict::Refused(Refusal::Revisited(place));
         }
+        marks::mark(&mut words, wide(node));
         reached = node;
         p += 1;
     }

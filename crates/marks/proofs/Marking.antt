@@ -4,15 +4,16 @@ use mathlib.Core.Bool.{Bool, true, false, _||_, or-false, or-assoc}
 use mathlib.Core.List.{List, [], _∷_}
 use Prim.Native.Nat.{ℕ, zero, suc, _+_, _-_, _*_, _/_, _%_, _^_, _≤_, _<_, max}
 use native.Mathlib.Numerals.{add-one}
+use native.Mathlib.Decide.{decLt}
 use native.Mathlib.Omega.{arith}
 use lib.Bits.{bitOr}
 use lib.Count.{trailingZeros}
 use lib.Dec.{eqb, ltb}
 use lib.ListN.{length, getD, set, take, drop, length-set, length-replicate, replicate-append-replicate, List·getD-eq-default}
 use lib.Pow.{shl-exact}
-use lib.Seq.{set-out, take-suc-set, getD-set-same, getD-set-other}
+use lib.Seq.{set-out, set-getD, take-suc-set, getD-set-same, getD-set-other}
 use borrow.Author.Tests.{lt-ltb, le-ltb, ltb-true, ltb-false, eqb-true, eqb-false, eq-eqb, ne-eqb}
-use Rattle.counting.specs.Count.{bit, among}
+use Rattle.counting.specs.Count.{bit, pick, among}
 use Rattle.counting.proofs.Tests.{same-of-iff}
 use Rattle.counting.proofs.Places.{from-place, zero-at}
 use Rattle.marks.specs.Marks.{digit, marked, unmarked, withMark, withStart, withStarts, numbersMost, FirstUnmarked}
@@ -20,6 +21,12 @@ use Rattle.marks.proofs.Digits.{digit-lt, digit-of-zero, digit-or, digi
 
 same-test : (a b c d : ℕ) → (a ≡ b → c ≡ d) → (c ≡ d → a ≡ b) → eqb a b ≡ eqb c d
 same-test a b c d f g = same-of-iff _ _ (λ e. eq-eqb c d (f (eqb-true a b e))) (λ e. eq-eqb a b (g (eqb-true c d e)))
+
+-- of two that are stored at one place the second stays
+set-again : (xs : List ℕ) (i x y : ℕ) → set (set xs i x) i y ≡ set xs i y
+set-again [] i x y = refl
+set-again (z ∷ zs) zero x y = refl
+set-again (z ∷ zs) (suc i) x y = ap (λ (rest : List ℕ). z ∷ rest) (set-again zs i x y)
 
 -- ---- no mark
 
@@ -31,6 +38,9 @@ pub none-marked : (n s : ℕ) → marked (unmarked n) s ≡ false
 unfolding unmarked
 none-marked n s = unmarked-in-zero (unmarked n) s (zero-at n (s / 64))
 
+pub none-beyond : (words : List ℕ) (n : ℕ) → length words ≤ n / 64 → marked words n ≡ false
+none-beyond words n past = unmarked-in-zero words n (List·getD-eq-default words 0 past)
+
 pub length-unmarked : (n : ℕ) → length (unmarked n) ≡ n
 unfolding unmarked
 length-unmarked n = length-replicate {A = ℕ} n 0
@@ -41,7 +51,7 @@ one-more-cleared words at l cleared = rw (add-one at, take-suc-set words at 0 l,
 
 -- ---- one mark more
 
-length-with-mark : (words : List ℕ) (n : ℕ) → length (withMark words n) ≡ length words
+pub length-with-mark : (words : List ℕ) (n : ℕ) → length (withMark words n) ≡ length words
 unfolding withMark
 length-with-mark words n = length-set words (n / 64) _
 
@@ -52,7 +62,7 @@ digit-or-bit (suc zero) true h = refl
 digit-or-bit (suc zero) false h = refl
 digit-or-bit (suc (suc d)) b h = absurd (omega (arith, h))
 
-marked-with-mark : (words : List ℕ) (n s : ℕ) → s < 64 * length words → marked (withMark words n) s ≡ (marked words s || eqb n s)
+pub marked-with-mark : (words : List ℕ) (n s : ℕ) → s < 64 * length words → marked (withMark words n) s ≡ (marked words s || eqb n s)
 unfolding marked withMark
 marked-with-mark words n s h = go (eqb (s / 64) (n / 64)) refl
   where
@@ -73,14 +83,55 @@ marked-with-mark words n s h = go (eqb (s / 64) (n / 64)) refl
         let q : s / 64 ≡ n / 64 → ⊥ = eqb-false _ _ e in
         rw (getD-set-other words (n / 64) (s / 64) word 0 q, ne-eqb n s (λ p. q (ap (λ (x : ℕ). x / 64) (sym p))), or-false)
 
--- as the code stores it, or drops it
-pub mark-stored : (words : List ℕ) (n : ℕ) → set words (n / 64) (bitOr (getD words (n / 64) 0) (1 * 2 ^ (n % 64) % 2 ^ 64)) ≡ withMark words n
-unfolding withMark
-mark-stored words n = ap (λ (x : ℕ). set words (n / 64) (bitOr (getD words (n / 64) 0) x)) (shl-exact 1 (n % 64) 64 (omega arith) (omega arith) ∙ omega arith)
+-- the bit of a number, as the code shifts it
+pub bit-in-hand : (n : ℕ) → 1 * 2 ^ (n % 64) % 2 ^ 64 ≡ 2 ^ (n % 64)
+bit-in-hand n = shl-exact 1 (n % 64) 64 (omega arith) (omega arith) ∙ omega arith
 
-pub mark-dropped : (words : List ℕ) (n : ℕ) → length words ≤ n / 64 → words ≡ withMark words n
-unfolding withMark
-mark-dropped words n h = sym (set-out words (n / 64) _ h)
+-- ---- a word in hand
+
+-- one that was just taken may be put back
+pub word-taken : (words : List ℕ) (n : ℕ) {at bits : ℕ} → at ≡ n / 64 → bits ≡ getD words (n / 64) 0 → set words at bits ≡ words
+word-taken words n is-at is-bits = rw (is-at, is-bits) (set-getD words (n / 64) 0)
+
+module _ (words : List ℕ) (at bits : ℕ) where
+  module _ (there : ℕ) where
+    -- the one that is wanted may be in hand
+    pub same-word : at ≡ there → (bits ≡ pick (eqb at there) bits (getD words there 0)) × (words ≡ pick (eqb at there) words (set words at bits))
+    same-word e = rw (eq-eqb at there e) (refl, refl)
+
+    -- or another is
+    pub other-word : (at ≡ there → ⊥) → (getD (set words at bits) there 0 ≡ pick (eqb at there) bits (getD words there 0)) × (set words at bits ≡ pick (eqb at there) words (set words at bits))
+    other-word differ = rw (ne-eqb at there differ) (getD-set-other words at there bits 0 (λ e. differ (sym e)), refl)
+
+    -- with the word in hand put back the words are the same before and after
+    pub word-changed : {words′ : List ℕ} {at′ bits′ : ℕ} → at′ ≡ there → bits′ ≡ pick (eqb at there) bits (getD words there 0) → words′ ≡ pick (eqb at there) words (set words at bits)
+        → set words′ at′ bits′ ≡ set words at bits
+    word-changed is-at is-bits is-words = rw (is-at, is-bits, is-words) (go (eqb at there) refl)
+      where
+        go : (b : Bool) → eqb at there ≡ b → set (pick b words (set words at bits)) there (pick b bits (getD words there 0)) ≡ set words at bits
+        go true e = rw (eqb-true at there e)
+        go false e =
+            let same = getD-set-other words at there bits 0 (λ q. eqb-false at there e (sym q)) in
+            ap (set (set words at bits) there) (sym same) ∙ set-getD (set words at bits) there 0
+
+  -- a number is marked in its word as it is in the words with that put back
+  module _ (n : ℕ) (its : at ≡ n / 64) where
+    back-at-place : n < 64 * length words → getD (set words at bits) (n / 64) 0 ≡ bits
+    back-at-place within = rw (← its) (getD-set-same words at bits 0 (omega arith))
+
+    pub marked-in-hand : n < 64 * length words → marked (set words at bits) n ≡ eqb (digit bits (n % 64)) 1
+    unfolding marked
+    marked-in-hand within = rw (back-at-place within)
+
+    pub mark-in-hand : set words at (bitOr bits (2 ^ (n % 64))) ≡ withMark (set words at bits) n
+    unfolding withMark
+    mark-in-hand = elim (decLt at (length words)) [
+      | yes l ↦ rw (back-at-place (omega arith), ← its, set-again words at)
+      | no m ↦ (
+          let out : length words ≤ at = omega arith in
+          set-out words at _ out ∙ sym (ap (λ (ws : List ℕ). set ws (n / 64) (bitOr (getD ws (n / 64) 0) (2 ^ (n % 64)))) (set-out words at bits out) ∙ set-out words (n / 64) _ (omega arith))
+          )
+    ]
 
 -- ---- the starts of some steps
 
@@ -113,6 +164,14 @@ module _ (offset step : ℕ) (words : List ℕ) where
       go false e =
           let l = ltb-false step offset e in
           rw (← start-marked l, marked-with-mark words (step - offset) s h, same-start l)
+
+-- a start is marked in its word, once that is in hand
+pub start-in-hand : (offset step : ℕ) (words : List ℕ) (at bits : ℕ) {words′ : List ℕ} {at′ bits′ : ℕ} → offset ≤ step → at′ ≡ (step - offset) / 64
+    → bits′ ≡ pick (eqb at ((step - offset) / 64)) bits (getD words ((step - offset) / 64) 0) → words′ ≡ pick (eqb at ((step - offset) / 64)) words (set words at bits)
+    → set words′ at′ (bitOr bits′ (2 ^ ((step - offset) % 64))) ≡ withStart offset step (set words at bits)
+start-in-hand offset step words at bits {words′} {at′} {bits′} h is-at is-bits is-words =
+    mark-in-hand words′ at′ bits′ (step - offset) is-at
+    ∙ rw (word-changed words at bits ((step - offset) / 64) is-at is-bits is-words) (start-marked offset step (set words at bits) h)
 
 pub length-with-starts : (offset : ℕ) (steps words : List ℕ) → length (withStarts offset steps words) ≡ length words
 unfolding withStarts
@@ -176,6 +235,6 @@ module _ (words : List ℕ) (at : ℕ) (all : AllMarked words (64 * at)) where
   first-past-words few past =
       record {
         below = few;
-        free = λ l. unmarked-in-zero words (64 * at) (List·getD-eq-default words 0 (omega (arith, past l)));
+        free = λ l. none-beyond words (64 * at) (omega (arith, past l));
         least = all;
       }

@@ -1,4 +1,4 @@
--- Each public contract of the marks has one outcome: those of `clear` and `mark_starts` are equations that say what the words are at the return,
+-- Each public contract of the marks has one outcome: all but one are equations that say the answer, or what the words are at the return,
 -- and two numbers that are both the first without a mark are equal.
 use mathlib.Core.Path.{_≡_}
 use mathlib.Core.List.{List}

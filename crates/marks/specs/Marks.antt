@@ -1,5 +1,5 @@
 -- Document 02, request 2: starts that are ruled out are marked, one bit a step. Here a number is marked by a bit in words of 64
--- bits; the lowest bit of the first word is number 0.
+-- bits; the lowest bit of the first word is number 0. Nodes that a path visits, and steps in which a link is entered, are marked likewise.
 use mathlib.Core.Path.{_≡_}
 use mathlib.Core.Bool.{Bool, true, false}
 use mathlib.Core.List.{List, [], _∷_}
@@ -24,6 +24,10 @@ unmarked words = replicate words 0
 -- the words with the number marked: as they are where it lies beyond them
 unfoldable pub withMark : List ℕ → ℕ → List ℕ
 withMark words n = set words (n / 64) (bitOr (getD words (n / 64) 0) (2 ^ (n % 64)))
+
+-- the words with no mark in the word of the number: as they are where it lies beyond them
+unfoldable pub wiped : List ℕ → ℕ → List ℕ
+wiped words n = set words (n / 64) 0
 
 -- with the start marked from which the offset leads to the step: as they are where it leads there from none
 unfoldable pub withStart : ℕ → ℕ → List ℕ → List ℕ

@@ -1,17 +1,17 @@
--- `marks::mark` meets its contract: the shifted 1 is the power of two that has the number's bit set, and a number beyond the words changes none.
-use native.Mathlib.Omega.{arith}
+-- `marks::mark` meets its contract: the number's word is put back with its mark.
+use mathlib.Core.Path.{_∙_}
 use borrow.Author.Needs.{needs}
-use Rattle.marks.proofs.Marking.{mark-stored, mark-dropped}
+use Rattle.marks.specs.Marks.{withMark}
 use Rattle.marks.proofs.mark.Statement.{statement}
 use Rattle.marks.proofs.mark.Tie as tie
 
 returns : tie.Need-returns
-returns c = mark-stored _ _
-
-returns-2 : tie.Need-returns-2
-returns-2 c = mark-dropped _ _ (omega arith)
+unfolding withMark
+returns c =
+    let p = c .before .before in
+    let m = p .before .before in
+    let t = m .before in
+    p .put-word .ensures ∙ rw (m .mark-in .ensures .0, m .mark-in .ensures .1, t .take-word .ensures .0, t .take-word .ensures .1)
 
 pub mark-spec : {M : Type 1} → statement M
-mark-spec =
-    tie.close
-    (tie.spec (λ c. search needs) (λ c. search needs) (λ c. search needs) (λ c. search needs) (λ c. search needs) (λ c. search needs) returns returns-2)
+mark-spec = tie.close (tie.spec (λ c κs. search needs) (λ c κs. search needs) (λ c κs. search needs) (λ c. search needs) returns)
