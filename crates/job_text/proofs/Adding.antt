@@ -1,13 +1,13 @@
 -- What a line adds to the job so far: of each kind of line, a law for every way out.
 use mathlib.Core.Path.{_≡_, sym, _∙_}
-use mathlib.Core.List.{List, _++_, append-assoc}
+use mathlib.Core.List.{List, _++_}
 use Prim.Native.Nat.{ℕ, _+_, _-_, _≤_, _<_}
 use native.Mathlib.Numerals.{add-one}
 use native.Mathlib.Nat.{sub-zero}
 use native.Mathlib.Omega.{arith}
 use borrow.Author.Tests.{le-ltb, lt-ltb, le-leb, lt-leb, eq-eqb, ne-eqb}
-use lib.ListN.{length, take, drop, set, length-append}
-use lib.Seq.{length-take-le, take-suc-set, take-append-seam, take-at, drop-at, sets, sets-eq}
+use lib.ListN.{length, take, drop, set}
+use lib.Seq.{length-take-le, take-suc-set, take-add}
 use Rattle.rules.specs.Sizes.{linksMost, packetsMost, hopsMost}
 use Rattle.rules.specs.Network.{Network, Job}
 use Rattle.rules.specs.Outcome.{Outcome, is, _then_}
@@ -23,6 +23,7 @@ use Rattle.job.specs.Told.{refusalOf, verdictOf}
 use Rattle.job.proofs.AfterVerdict.{after-refusal, after-fine}
 use Rattle.job_text.specs.declared.Reading.the-variants.{Read, Refused}
 use Rattle.job_text.specs.Told.{Lists, lists}
+use Rattle.job_text.specs.LineInText.{PathStands}
 use Rattle.job_text.specs.SoFar.{soFar, Room, Within, Took}
 
 pub took-refusal : {o : Outcome Job} {r : Refusal} {after : Lists} → o ≡ refusalOf r → Took o (Refused r) after
@@ -97,27 +98,29 @@ module _ (line : ℕ) (c : Counts) (l : Lists) (room : Room l) (w : Within c) wh
         unfolding withLine
         packet-judged = rw (length-packets c l room w, lt-ltb (c .packets) packetsMost h, length-hops c l room w, le-leb (c .hops + length path) hopsMost k)
 
-        -- behind the hops that are counted the path is copied
-        stored : sets (l .hops) (c .hops) path ≡ take (c .hops) (l .hops) ++ path ++ drop (c .hops + length path) (l .hops)
-        stored = let r = room .hops in sets-eq path (l .hops) (c .hops) (omega arith)
-
-        -- and the parts of the lists that are judged are the job's links and that path
-        pub parts-judged : {i from to : ℕ} {hops : List ℕ} → i ≡ c .links → from ≡ c .hops → to ≡ from + length path → hops ≡ sets (l .hops) from path
-            → packetVerdict (networkOf (c .nodes) (take (i - 0) (l .origins)) (take (i - 0) (l .ends))) line source (take (to - from) (drop from hops)) ≡ packetVerdict net line source path
-        parts-judged at begin end put =
-            let n : c .hops + length path - c .hops ≡ length path = omega arith in
-            rw (at, sub-zero, put, end, begin, n, stored, append-assoc, drop-at (take (c .hops) (l .hops)) (path ++ drop (c .hops + length path) (l .hops)) (c .hops) (length-hops c l room w), take-append-seam)
-
         pub packet-refused : {after : Lists} {v : Verdict} {r : Refusal} → v ≡ VerdictRefused r → verdictOf v ≡ packetVerdict net line source path → Took carried (Refused r) after
         packet-refused d e = took-refusal (packet-judged ∙ after-refusal d e _)
 
-        pub packet-added : {v : Verdict} → v ≡ Fine → verdictOf v ≡ packetVerdict net line source path → {i from to : ℕ} {hops : List ℕ} → i ≡ c .packets → from ≡ c .hops → to ≡ from + length path → hops ≡ sets (l .hops) from path
-            → Took carried (Read (record { nodes = c .nodes; links = c .links; packets = c .packets + 1; hops = to })) (lists (l .origins) (l .ends) (set (l .sources) i source) (set (l .stops) i to) hops)
-        packet-added d e at begin end put =
-            let s : c .packets < length (l .sources) = omega (arith, room .sources) in
-            let t : c .packets < length (l .stops) = omega (arith, room .stops) in
-            let n : length (take (c .hops) (l .hops) ++ path) ≡ c .hops + length path = simp (length-append, length-hops c l room w) in
-            record {
-              read = sym (packet-judged ∙ after-fine d e _ ∙ rw (at, put, end, begin, add-one (c .packets), take-suc-set (l .sources) (c .packets) source, take-suc-set (l .stops) (c .packets) (c .hops + length path), stored, take-at (take (c .hops) (l .hops) ++ path) (drop (c .hops + length path) (l .hops)) (c .hops + length path) n, length-hops c l room w));
-              within = record { links = w .links; packets = omega arith; hops = omega arith };
-            }
+        -- the path stands behind the hops so far
+        module _ {count : ℕ} (s : PathStands count (l .hops) (c .hops) path) where
+          path-here : take count (drop (c .hops) (l .hops)) ≡ path
+          path-here = s .here (omega (arith, s .many, room .hops))
+
+          -- the parts of the lists that are judged are the job's links and that path
+          pub parts-judged : {i from to : ℕ} → i ≡ c .links → from ≡ c .hops → to ≡ from + count
+              → packetVerdict (networkOf (c .nodes) (take (i - 0) (l .origins)) (take (i - 0) (l .ends))) line source (take (to - from) (drop from (l .hops))) ≡ packetVerdict net line source path
+          parts-judged at begin end =
+              let n : c .hops + count - c .hops ≡ count = omega arith in
+              rw (at, sub-zero, end, begin, n, path-here)
+
+          pub packet-added : {v : Verdict} → v ≡ Fine → verdictOf v ≡ packetVerdict net line source path → {i from to : ℕ} → i ≡ c .packets → from ≡ c .hops → to ≡ from + count
+              → Took carried (Read (record { nodes = c .nodes; links = c .links; packets = c .packets + 1; hops = to })) (lists (l .origins) (l .ends) (set (l .sources) i source) (set (l .stops) i to) (l .hops))
+          packet-added d e {i} {from} {to} at begin end =
+              let t : c .packets < length (l .sources) = omega (arith, room .sources) in
+              let u : c .packets < length (l .stops) = omega (arith, room .stops) in
+              let stop : to ≡ c .hops + length path = omega (arith, s .many) in
+              let hops : take (c .hops + length path) (l .hops) ≡ take (c .hops) (l .hops) ++ path = rw (← s .many, take-add (c .hops) count (l .hops), path-here) in
+              record {
+                read = sym (packet-judged ∙ after-fine d e _ ∙ rw (at, stop, add-one (c .packets), take-suc-set (l .sources) (c .packets) source, take-suc-set (l .stops) (c .packets) (c .hops + length path), hops, length-hops c l room w));
+                within = record { links = w .links; packets = omega arith; hops = omega (arith, s .many) };
+              }

@@ -1,2 +1,3 @@
+pub mod LineInText
 pub mod SoFar
 pub mod Told

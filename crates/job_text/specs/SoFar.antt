@@ -1,4 +1,4 @@
--- What the reader's own functions promise: of a line by itself, and of the job that stands in the lists so far.
+-- What the reader's own functions promise of the job that stands in the lists so far.
 use mathlib.Core.Path.{_≡_}
 use mathlib.Core.List.{List}
 use Prim.Native.Nat.{ℕ, _≤_}
@@ -6,38 +6,12 @@ use lib.ListN.{length, take}
 use Rattle.rules.specs.Sizes.{linksMost, packetsMost, hopsMost}
 use Rattle.rules.specs.Network.{Job}
 use Rattle.rules.specs.Outcome.{Outcome, is}
-use Rattle.rules.specs.JobText.{Line as Said, nodes, link, packet, bad}
 use Rattle.job.specs.declared.Job.{Job as Counts}
 use Rattle.job.specs.Lists.{jobOf}
 use Rattle.job.specs.Told.{refusalOf}
-use Rattle.lines.specs.Fields.{fieldsFrom, leading}
-use Rattle.job_text.specs.declared.Line.{Line}
-use Rattle.job_text.specs.declared.Line.the-variants.{Nodes, Link, Packet, Bad}
 use Rattle.job_text.specs.declared.Reading.{Reading}
 use Rattle.job_text.specs.declared.Reading.the-variants.{Read, Refused}
 use Rattle.job_text.specs.Told.{Lists, filled}
-
--- ---- a line by itself
-
--- the path of a packet is what the fields from a place on say
-abbrev pub lineTold : List ℕ → Line → Said
-lineTold bytes (Nodes n) = nodes n
-lineTold bytes (Link from to) = link from to
-lineTold bytes (Packet p) = packet (p .source) (leading (fieldsFrom bytes (p .at)))
-lineTold bytes Bad = bad
-
--- and it is told how long that is
-abbrev pub Counted : List ℕ → Line → Type 0
-Counted bytes (Nodes n) = Unit
-Counted bytes (Link from to) = Unit
-Counted bytes (Packet p) = p .count ≡ length (leading (fieldsFrom bytes (p .at)))
-Counted bytes Bad = Unit
-
-pub record LineAs (said : Said) (bytes : List ℕ) (told : Line) : Type 0 where
-  pub says : lineTold bytes told ≡ said
-  pub counted : Counted bytes told
-
--- ---- the job so far
 
 -- the job that stands in the first places of the lists, as many as are counted
 abbrev pub soFar : Counts → Lists → Job

@@ -1,30 +1,28 @@
 // The reader of job texts: bytes in, the lists of a job out.
 ghost use mathlib.Core.Path.{_≡_};
 ghost use mathlib.Core.List.{List};
-ghost use mathlib.Core.Option.{some};
 ghost use Prim.Native.Nat.{ℕ, _+_, _≤_};
-ghost use lib.ListN.{length, drop};
+ghost use lib.ListN.{length, take, drop};
 ghost use Rattle.rules.specs.Handed.{given, left};
 ghost use Rattle.rules.specs.Sizes.{textMost, linksMost};
-ghost use Rattle.rules.specs.Bytes.{lineFeed, numbersOf, split};
-ghost use Rattle.rules.specs.JobText.{letterLine, lineOf, link, packet as packetLine, withLine, firstLine, allLines};
+ghost use Rattle.rules.specs.Bytes.{lineFeed, letterL, letterN, letterP, split};
+ghost use Rattle.rules.specs.JobText.{Line as Said, link, packet as packetLine, withLine, firstLine, allLines};
 ghost use Rattle.theorems.specs.TextRest.{withRest};
-ghost use Rattle.lines.specs.Fields.{fieldsFrom, howMany, leading};
 ghost use Rattle.job_text.specs.Told.{Lists, lists, listsGiven, listsLeft, roomFor, readIn, ReadAs};
-ghost use Rattle.job_text.specs.SoFar.{lineTold, LineAs, soFar, Room, Within, Took, front, Fronts, keptOf};
+ghost use Rattle.job_text.specs.LineInText.{badLine, fedAt, saidAt, saidBehind, lineTold, PathStands, LineAs, FoundAs};
+ghost use Rattle.job_text.specs.SoFar.{soFar, Room, Within, Took, front, Fronts, keptOf};
 use job::Job;
 use job::Refusal;
 use job::Verdict;
 use job::link_verdict;
 use job::packet_verdict;
 use job::wide;
-use lines::reading::Counted;
+use lines::reading::Copied;
+use lines::reading::Field;
 use lines::reading::Lines;
-use lines::reading::NextLine;
-use lines::reading::copy_numbers;
-use lines::reading::count_numbers;
-use lines::reading::find;
-use lines::reading::letter_of;
+use lines::reading::copy_behind;
+use lines::reading::field_behind;
+use lines::reading::letter_at;
 
 // The counts of the job that stands in the lists, or why there is none.
 pub enum Reading {
@@ -32,65 +30,128 @@ pub enum Reading {
     Refused(Refusal),
 }
 
-// A packet's source, and the place behind which the fields say the links of its path, so many.
-struct Packet {
-    source: u16,
-    at: usize,
-    count: usize,
-}
-
-// What a line says by itself.
+// What a line says by itself. The path of a packet, so long, is left in the hops as far as they go.
 enum Line {
     Nodes(u16),
     Link { from: u16, to: u16 },
-    Packet(Packet),
+    Packet { source: u16, count: usize },
     Bad,
 }
 
-// A line with this letter, behind which the fields say so many numbers.
-fn line_with(line: &[u8], letter: u8, count: usize) -> Line
-    requires { ⌜ howMany (numbersOf (fieldsFrom (now line) 1)) ≡ some count ⌝ }
-    ensures { λ r. ⌜ LineAs (letterLine letter (numbersOf (fieldsFrom (given line) 1))) (given line) r ⌝ }
-{
-    let mut numbers = [0u16; 2];
-    copy_numbers(line, 1, &mut numbers, 0);
-    if letter == b'N' {
-        if count == 1 {
-            return Line::Nodes(numbers[0]);
-        }
-        return Line::Bad;
-    }
-    if letter == b'L' {
-        if count == 2 {
-            return Line::Link {
-                from: numbers[0],
-                to: numbers[1],
-            };
-        }
-        return Line::Bad;
-    }
-    if letter == b'P' {
-        if count > 0 {
-            return Line::Packet(Packet {
-                source: numbers[0],
-                at: find(line, b'\t', 2),
-                count: count - 1,
-            });
-        }
-        return Line::Bad;
-    }
-    Line::Bad
+// A line in a text, and where it ends, unless it is bad.
+struct Found {
+    line: Line,
+    end: usize,
 }
 
-fn line_of(line: &[u8]) -> Line
-    ensures { λ r. ⌜ LineAs (lineOf (given line)) (given line) r ⌝ }
+// No line of a job.
+fn bad_line() -> Found
+    ensures { λ r. ⌜ r ≡ badLine ⌝ }
 {
-    let letter = letter_of(line);
-    let counted = count_numbers(line, 1);
-    match counted {
-        Counted::Numbers(count) => line_with(line, letter, count),
-        Counted::NoNumber => Line::Bad,
+    Found {
+        line: Line::Bad,
+        end: 0,
     }
+}
+
+// Whether a line ends at a place, by a line feed.
+fn fed_at(text: &[u8], at: usize) -> bool
+    ensures { λ r. ⌜ r ≡ fedAt (given text) at ⌝ }
+{
+    if at < text.len() {
+        text[at] == b'\n'
+    } else {
+        false
+    }
+}
+
+// N: one number behind the letter, which ends at this place.
+fn nodes_at(text: &[u8], at: usize) -> Found
+    ensures { λ r. ⌜ ((hops : List ℕ) (from : ℕ) → FoundAs (saidBehind letterN (given text) at) (given text) at r hops from) ⌝ }
+{
+    let Field::Number {
+        value: nodes,
+        end: nodes_end,
+    } = field_behind(text, at)
+    else {
+        return bad_line();
+    };
+    if !fed_at(text, nodes_end) {
+        return bad_line();
+    }
+    Found {
+        line: Line::Nodes(nodes),
+        end: nodes_end,
+    }
+}
+
+// L: two numbers.
+fn link_at(text: &[u8], at: usize) -> Found
+    ensures { λ r. ⌜ ((hops : List ℕ) (place : ℕ) → FoundAs (saidBehind letterL (given text) at) (given text) at r hops place) ⌝ }
+{
+    let Field::Number {
+        value: from,
+        end: from_end,
+    } = field_behind(text, at)
+    else {
+        return bad_line();
+    };
+    let Field::Number {
+        value: to,
+        end: to_end,
+    } = field_behind(text, from_end)
+    else {
+        return bad_line();
+    };
+    if !fed_at(text, to_end) {
+        return bad_line();
+    }
+    Found {
+        line: Line::Link { from, to },
+        end: to_end,
+    }
+}
+
+// P: a source, and a path that is copied into the hops from a place on.
+fn packet_at(text: &[u8], at: usize, hops: &mut [u16], from: usize) -> Found
+    ensures { λ r. ⌜ FoundAs (saidBehind letterP (given text) at) (given text) at r (left hops) from
+        × (take from (left hops) ≡ take from (given hops)) ⌝ }
+{
+    let Field::Number {
+        value: source,
+        end: source_end,
+    } = field_behind(text, at)
+    else {
+        return bad_line();
+    };
+    let Copied::Numbers { count, end } = copy_behind(text, source_end, hops, from) else {
+        return bad_line();
+    };
+    if end >= text.len() {
+        return bad_line();
+    }
+    Found {
+        line: Line::Packet { source, count },
+        end,
+    }
+}
+
+// The line that begins at a place. A packet's path is copied into the hops from a place on, and those before it stay.
+fn line_at(text: &[u8], at: usize, hops: &mut [u16], from: usize) -> Found
+    ensures { λ r. ⌜ FoundAs (saidAt (given text) at) (given text) at r (left hops) from
+        × (take from (left hops) ≡ take from (given hops)) ⌝ }
+{
+    let letter = letter_at(text, at);
+    if letter == b'P' {
+        return packet_at(text, at + 1, hops, from);
+    }
+    if letter == b'L' {
+        return link_at(text, at + 1);
+    }
+    if letter == b'N' {
+        return nodes_at(text, at + 1);
+    }
+    bad_line()
 }
 
 // L: one more link.
@@ -133,24 +194,22 @@ fn add_link(
     }
 }
 
-// P: one more packet, whose path is copied behind the hops and judged there.
+// P: one more packet, whose path is judged where it stands, behind the hops so far.
 fn add_packet(
-    bytes: &[u8],
     line: u32,
     job: Job,
-    packet: Packet,
+    source: u16,
+    count: usize,
     origins: &[u16],
     ends: &[u16],
     sources: &mut [u16],
     stops: &mut [u16],
-    hops: &mut [u16],
+    hops: &[u16],
 ) -> Reading
-    requires { ⌜ Within job × Room (lists (now origins) (now ends) (now sources) (now stops) (now hops))
-        × (packet .count ≡ length (leading (fieldsFrom (now bytes) (packet .at)))) ⌝ }
-    ensures { λ r. ⌜ Took
-        (withLine line (soFar job (listsGiven origins ends sources stops hops))
-        (packetLine (packet .source) (leading (fieldsFrom (given bytes) (packet .at))))) r
-        (lists (given origins) (given ends) (left sources) (left stops) (left hops)) ⌝ }
+    requires { ⌜ Within job × Room (lists (now origins) (now ends) (now sources) (now stops) (now hops)) ⌝ }
+    ensures { λ r. ⌜ ((path : List ℕ) → PathStands count (given hops) (job .hops) path → Took
+        (withLine line (soFar job (listsGiven origins ends sources stops hops)) (packetLine source path)) r
+        (lists (given origins) (given ends) (left sources) (left stops) (given hops))) ⌝ }
 {
     let links = wide(job.links);
     let packets = wide(job.packets);
@@ -158,23 +217,22 @@ fn add_packet(
     if packets >= Job::PACKETS {
         return Reading::Refused(Refusal::Size(line));
     }
-    if packet.count > Job::HOPS - from {
+    if count > Job::HOPS - from {
         return Reading::Refused(Refusal::Size(line));
     }
-    let to = from + packet.count;
-    copy_numbers(bytes, packet.at, hops, from);
+    let to = from + count;
     let verdict = packet_verdict(
         job.nodes,
         &origins[0..links],
         &ends[0..links],
         &hops[from..to],
-        packet.source,
+        source,
         line,
     );
     match verdict {
         Verdict::Refused(refusal) => Reading::Refused(refusal),
         Verdict::Fine => {
-            sources[packets] = packet.source;
+            sources[packets] = source;
             stops[packets] = to as u16;
             Reading::Read(Job {
                 nodes: job.nodes,
@@ -188,28 +246,28 @@ fn add_packet(
 
 // A line below the first.
 fn add_line(
-    bytes: &[u8],
+    told: Line,
     line: u32,
     job: Job,
     origins: &mut [u16],
     ends: &mut [u16],
     sources: &mut [u16],
     stops: &mut [u16],
-    hops: &mut [u16],
+    hops: &[u16],
 ) -> Reading
     requires { ⌜ Within job × Room (lists (now origins) (now ends) (now sources) (now stops) (now hops)) ⌝ }
-    ensures { λ r. ⌜ Took (withLine line (soFar job (listsGiven origins ends sources stops hops)) (lineOf (given bytes))) r
-        (listsLeft origins ends sources stops hops) ⌝ }
+    ensures { λ r. ⌜ ((said : Said) → LineAs said told (given hops) (job .hops) → Took
+        (withLine line (soFar job (listsGiven origins ends sources stops hops)) said) r
+        (lists (left origins) (left ends) (left sources) (left stops) (given hops))) ⌝ }
 {
-    let said = line_of(bytes);
-    match said {
+    match told {
         Line::Nodes(_) => Reading::Refused(Refusal::BadForm(line)),
         Line::Link { from, to } => add_link(line, job, from, to, origins, ends),
-        Line::Packet(packet) => add_packet(
-            bytes,
+        Line::Packet { source, count } => add_packet(
             line,
             job,
-            packet,
+            source,
+            count,
             origins,
             ends,
             sources,
@@ -239,38 +297,28 @@ fn add_lines(
 {
     let mut cursor = first;
     let mut job = begun;
-    loop {
-        let line = cursor.line;
-        let next_line = cursor.next(text);
-        match next_line {
-            NextLine::Whole { begin, end, next } => {
-                let bytes = &text[begin..end];
-                let answer = add_line(bytes, line, job, origins, ends, sources, stops, hops);
-                match answer {
-                    Reading::Refused(refusal) => {
-                        return Reading::Refused(refusal);
-                    }
-                    Reading::Read(more) => {
-                        job = more;
-                        cursor = next;
-                    }
-                }
+    while cursor.at < text.len() {
+        let found = line_at(text, cursor.at, hops, wide(job.hops));
+        let told = found.line;
+        let answer = add_line(told, cursor.line, job, origins, ends, sources, stops, hops);
+        match answer {
+            Reading::Refused(refusal) => {
+                return Reading::Refused(refusal);
             }
-            NextLine::Cut => {
-                return Reading::Refused(Refusal::BadForm(line));
-            }
-            NextLine::End => {
-                return Reading::Read(job);
+            Reading::Read(more) => {
+                job = more;
+                cursor = cursor.moved(found.end + 1);
             }
         }
     }
+    Reading::Read(job)
 }
 
 // The job of the first line alone, which is N's.
-fn first_line(said: Line) -> Reading
-    ensures { λ r. ⌜ ((bytes : List ℕ) (l : Lists) → Took (firstLine (lineTold bytes said)) r l) ⌝ }
+fn first_line(told: Line) -> Reading
+    ensures { λ r. ⌜ ((path : List ℕ) (l : Lists) → Took (firstLine (lineTold path told)) r l) ⌝ }
 {
-    match said {
+    match told {
         Line::Nodes(nodes) => {
             if nodes < 1 {
                 return Reading::Refused(Refusal::Size(1));
@@ -286,7 +334,10 @@ fn first_line(said: Line) -> Reading
             })
         }
         Line::Link { from: _, to: _ } => Reading::Refused(Refusal::BadForm(1)),
-        Line::Packet(_) => Reading::Refused(Refusal::BadForm(1)),
+        Line::Packet {
+            source: _,
+            count: _,
+        } => Reading::Refused(Refusal::BadForm(1)),
         Line::Bad => Reading::Refused(Refusal::BadForm(1)),
     }
 }
@@ -303,19 +354,15 @@ fn read_lines(
     requires { ⌜ (length (now text) ≤ textMost) × Room (lists (now origins) (now ends) (now sources) (now stops) (now hops)) ⌝ }
     ensures { λ r. ⌜ Took (allLines (split lineFeed (given text))) r (listsLeft origins ends sources stops hops) ⌝ }
 {
-    let next_line = Lines::top().next(text);
-    match next_line {
-        NextLine::Whole { begin, end, next } => {
-            let first = first_line(line_of(&text[begin..end]));
-            match first {
-                Reading::Refused(refusal) => Reading::Refused(refusal),
-                Reading::Read(job) => {
-                    add_lines(text, next, job, origins, ends, sources, stops, hops)
-                }
-            }
+    let found = line_at(text, 0, hops, 0);
+    let told = found.line;
+    let first = first_line(told);
+    match first {
+        Reading::Refused(refusal) => Reading::Refused(refusal),
+        Reading::Read(job) => {
+            let next = Lines::top().moved(found.end + 1);
+            add_lines(text, next, job, origins, ends, sources, stops, hops)
         }
-        NextLine::Cut => Reading::Refused(Refusal::BadForm(1)),
-        NextLine::End => Reading::Refused(Refusal::BadForm(1)),
     }
 }
 

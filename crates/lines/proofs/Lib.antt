@@ -1,6 +1,9 @@
 pub mod Cuts
 pub mod Digits
 pub mod FieldsLeft
+pub mod BehindPlaces
+pub mod DigitsBehind
+pub mod CopyingNumbers
 pub mod LinesLeft
 pub mod Putting
 pub mod ReadOnce

@@ -13,7 +13,7 @@ use Rattle.theorems.proofs.TextPieces.{split-first}
 use Rattle.lines.specs.declared.reading.Lines.{Lines}
 use Rattle.lines.specs.declared.reading.NextLine.the-variants.{Whole, Cut, End}
 use Rattle.lines.specs.Pieces.{before}
-use Rattle.lines.specs.Cursor.{lineAfter, nextLine}
+use Rattle.lines.specs.Cursor.{cursorAt, lineAfter, nextLine}
 use Rattle.lines.proofs.Cuts.{split-from, piece-length}
 
 -- the line at a cursor ends at this place
@@ -26,7 +26,7 @@ module _ (text : List ℕ) (c : Lines) {end : ℕ} (e : end ≡ c .at + before l
       let all : length (drop (c .at) text) ≤ end - c .at = omega (arith, length-drop (c .at) text) in
       split-from lineFeed text (c .at) e ∙ rw (take-all (end - c .at) (drop (c .at) text), drop-of-length-le text h)
 
-  pub next-whole : end < length text → nextLine text c ≡ Whole (c .at) end (record { at = end + 1; line = lineAfter (c .line) })
+  pub next-whole : end < length text → nextLine text c ≡ Whole (c .at) end (cursorAt (end + 1) (lineAfter (c .line)))
   unfolding nextLine
   next-whole h =
       let (q, qs, f) = split-first lineFeed (drop (end + 1) text) in
@@ -61,7 +61,7 @@ module _ (text : List ℕ) (c : Lines) where
             let w = sym (next-whole text c refl h) ∙ e in
             let here : c .at ≡ begin = cc in
             let stops : stop ≡ end = cc in
-            let on : (record { at = stop + 1; line = lineAfter (c .line) }) ≡ next = cc in
+            let on : cursorAt (stop + 1) (lineAfter (c .line)) ≡ next = cc in
             rw (← here, ← stops, ← on) (record { here = refl; forward = omega arith; within = h; next-at = refl; next-line = refl; left = whole-left text c refl h })
             )
         | no h ↦ elim (decLt (c .at) (length text)) [

@@ -1,12 +1,16 @@
--- Each contract of the reading functions has one outcome: most say the answer outright, and what these two are told as says it too.
+-- Each contract of the reading functions has one outcome: most say the answer outright; what the number of a field is told as says it too;
+-- and copying says its answer and the list.
 use mathlib.Core.Path.{_≡_, refl, sym, ap, _∙_}
+use mathlib.Core.List.{List}
 use mathlib.Core.Option.{Option, none, some}
 use Prim.Native.Nat.{ℕ}
+use lib.Seq.{sets}
+use Rattle.rules.specs.Bytes.{numbersOf}
 use Rattle.lines.specs.declared.reading.Number.{Number}
 use Rattle.lines.specs.declared.reading.Number.the-variants.{Value, NoNumber}
-use Rattle.lines.specs.declared.reading.Counted.{Counted}
-use Rattle.lines.specs.declared.reading.Counted.the-variants.{Numbers, NoNumber as NotAll}
-use Rattle.lines.specs.Fields.{numberTold, countedTold}
+use Rattle.lines.specs.declared.reading.Copied.{Copied}
+use Rattle.lines.specs.Fields.{numberTold}
+use Rattle.lines.specs.Behind.{fieldsBehind, lineEnd, copied, leading}
 
 abbrev numberSaid : Option ℕ → Number
 numberSaid none = NoNumber
@@ -19,13 +23,11 @@ said-number NoNumber = refl
 pub number-injective : (n m : Number) → numberTold n ≡ numberTold m → n ≡ m
 number-injective n m e = sym (said-number n) ∙ ap numberSaid e ∙ said-number m
 
-abbrev countSaid : Option ℕ → Counted
-countSaid none = NotAll
-countSaid (some count) = Numbers count
+-- what copying the numbers behind a place promises
+abbrev CopiedAs : List ℕ → ℕ → List ℕ → ℕ → Copied → List ℕ → Type 0
+CopiedAs text at lent from r after =
+    (r ≡ copied (numbersOf (fieldsBehind text at)) (lineEnd text at)) × (after ≡ sets lent from (leading (fieldsBehind text at)))
 
-said-count : (c : Counted) → countSaid (countedTold c) ≡ c
-said-count (Numbers count) = refl
-said-count NotAll = refl
-
-pub counted-injective : (c d : Counted) → countedTold c ≡ countedTold d → c ≡ d
-counted-injective c d e = sym (said-count c) ∙ ap countSaid e ∙ said-count d
+pub copied-once : (text : List ℕ) (at : ℕ) (lent : List ℕ) (from : ℕ) {r s : Copied} {after other : List ℕ}
+    → CopiedAs text at lent from r after → CopiedAs text at lent from s other → (r ≡ s) × (after ≡ other)
+copied-once text at lent from p q = (p .0 ∙ sym (q .0), p .1 ∙ sym (q .1))

@@ -17,15 +17,19 @@ lineMost = 4294967295
 abbrev pub lineAfter : ℕ → ℕ
 lineAfter n = min (n + 1) lineMost
 
+-- the cursor at a place, with the number of the line that begins there
+abbrev pub cursorAt : ℕ → ℕ → Lines
+cursorAt at line = record { at = at; line = line }
+
 -- lines count from 1
 abbrev pub topLine : Lines
-topLine = record { at = 0; line = 1 }
+topLine = cursorAt 0 1
 
 -- from the pieces that are left: one with another after it is a whole line, and the last holds what no line feed ends
 abbrev pub nextPiece : Lines → List (List ℕ) → NextLine
 nextPiece c [] = End
 nextPiece c (p ∷ []) = pick (eqb (length p) 0) End Cut
-nextPiece c (p ∷ q ∷ ps) = let end = c .at + length p in Whole (c .at) end (record { at = end + 1; line = lineAfter (c .line) })
+nextPiece c (p ∷ q ∷ ps) = let end = c .at + length p in Whole (c .at) end (cursorAt (end + 1) (lineAfter (c .line)))
 
 unfoldable pub nextLine : List ℕ → Lines → NextLine
 nextLine text c = nextPiece c (split lineFeed (drop (c .at) text))

@@ -10,19 +10,10 @@ use Rattle.lines.specs.declared.reading.Number.{Number}
 use Rattle.lines.specs.declared.reading.Number.the-variants.{Value, NoNumber}
 use Rattle.lines.specs.declared.reading.Field.{Field}
 use Rattle.lines.specs.declared.reading.Field.the-variants.{Number as Said, NoNumber as SaysNone, NoField}
-use Rattle.lines.specs.declared.reading.Counted.{Counted}
-use Rattle.lines.specs.declared.reading.Counted.the-variants.{Numbers, NoNumber as NotAll}
 
 abbrev pub numberTold : Number → Option ℕ
 numberTold (Value n) = some n
 numberTold NoNumber = none
-
--- a first field that is one byte is the letter
-abbrev pub letterOf : List (List ℕ) → ℕ
-letterOf [] = 0
-letterOf ([] ∷ fs) = 0
-letterOf ((letter ∷ []) ∷ fs) = letter
-letterOf ((letter ∷ b ∷ bs) ∷ fs) = 0
 
 -- the fields of a line behind one that ends at a place
 unfoldable pub fieldsFrom : List ℕ → ℕ → List (List ℕ)
@@ -39,21 +30,3 @@ firstField (f ∷ fs) at = saidUpTo (numberOf f) (at + 1 + length f)
 
 unfoldable pub nextField : List ℕ → ℕ → Field
 nextField line at = firstField (fieldsFrom line at) at
-
-abbrev pub countedTold : Counted → Option ℕ
-countedTold (Numbers count) = some count
-countedTold NotAll = none
-
-abbrev pub howMany : Option (List ℕ) → Option ℕ
-howMany none = none
-howMany (some ns) = some (length ns)
-
--- the number of a field in front of others
-abbrev pub inFront : Option ℕ → List ℕ → List ℕ
-inFront none ns = []
-inFront (some n) ns = n ∷ ns
-
--- the numbers of the fields up to one that says none
-unfoldable pub leading : List (List ℕ) → List ℕ
-leading [] = []
-leading (f ∷ fs) = inFront (numberOf f) (leading fs)

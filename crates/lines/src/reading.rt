@@ -4,10 +4,11 @@ ghost use Prim.Native.Nat.{_+_};
 ghost use lib.ListN.{drop};
 ghost use lib.Seq.{sets};
 ghost use Rattle.rules.specs.Handed.{given, left};
-ghost use Rattle.rules.specs.Bytes.{tab, numberOf, numbersOf, split};
+ghost use Rattle.rules.specs.Bytes.{numberOf, numbersOf};
 ghost use Rattle.lines.specs.Pieces.{before};
-ghost use Rattle.lines.specs.Cursor.{lineAfter, topLine, nextLine};
-ghost use Rattle.lines.specs.Fields.{numberTold, letterOf, fieldsFrom, nextField, countedTold, howMany, leading};
+ghost use Rattle.lines.specs.Cursor.{cursorAt, lineAfter, topLine, nextLine};
+ghost use Rattle.lines.specs.Fields.{numberTold, firstField, nextField};
+ghost use Rattle.lines.specs.Behind.{letterOf, endsHere, fieldAt, fieldsBehind, lineEnd, copied, leading};
 
 const TAB: u8 = 9;
 
@@ -122,13 +123,16 @@ impl Lines {
         }
         NextLine::End
     }
-}
 
-// The letter of a line: its first field, if that is one byte, else 0.
-pub fn letter_of(line: &[u8]) -> u8
-    ensures { λ r. ⌜ r ≡ letterOf (split tab (given line)) ⌝ }
-{
-    if find(line, TAB, 0) == 1 { line[0] } else { 0 }
+    // The cursor at the next line, where that begins.
+    pub fn moved(self, next: usize) -> Lines
+        ensures { λ r. ⌜ r ≡ cursorAt next (lineAfter (self .line)) ⌝ }
+    {
+        Lines {
+            at: next,
+            line: line_after(self.line),
+        }
+    }
 }
 
 // The field after one that ends at a place: its number and where it ends.
@@ -153,53 +157,108 @@ pub fn next_field(line: &[u8], at: usize) -> Field
     }
 }
 
-// How many fields follow, if each says a number.
-pub enum Counted {
-    Numbers(usize),
-    NoNumber,
+// The byte at a place, if a tab stands behind it, else 0.
+pub fn letter_at(text: &[u8], at: usize) -> u8
+    ensures { λ r. ⌜ r ≡ letterOf (drop at (given text)) ⌝ }
+{
+    if at >= text.len() {
+        return 0;
+    }
+    if text.len() - at < 2 {
+        return 0;
+    }
+    if text[at + 1] == TAB { text[at] } else { 0 }
 }
 
-pub fn count_numbers(line: &[u8], at: usize) -> Counted
-    ensures { λ r. ⌜ countedTold r ≡ howMany (numbersOf (fieldsFrom (given line) at)) ⌝ }
+// Whether a field ends at a place: at a tab, at a line feed or at the end of the text.
+fn ends_at(text: &[u8], at: usize) -> bool
+    ensures { λ r. ⌜ r ≡ endsHere (drop at (given text)) ⌝ }
 {
-    let mut place = at;
-    let mut count: usize = 0;
-    loop {
-        let field = next_field(line, place);
-        match field {
-            Field::Number { value: _, end } => {
-                count += 1;
-                place = end;
-            }
-            Field::NoNumber => {
-                return Counted::NoNumber;
-            }
-            Field::NoField => {
-                return Counted::Numbers(count);
-            }
+    if at >= text.len() {
+        return true;
+    }
+    let byte = text[at];
+    byte == TAB || byte == LINE_FEED
+}
+
+// The number of the field that begins at a place of a text, and where the field ends.
+fn number_at(text: &[u8], begin: usize) -> Field
+    ensures { λ r. ⌜ r ≡ fieldAt (given text) begin ⌝ }
+{
+    let mut value: u32 = 0;
+    let mut i = begin;
+    while i < text.len() {
+        let digit = text[i];
+        if digit < ZERO {
+            break;
         }
+        if digit > NINE {
+            return Field::NoNumber;
+        }
+        value = value * 10 + (digit - ZERO) as u32;
+        if value > NUMBER_MOST {
+            return Field::NoNumber;
+        }
+        i += 1;
+    }
+    if !ends_at(text, i) {
+        return Field::NoNumber;
+    }
+    if i == begin {
+        return Field::NoNumber;
+    }
+    if i - begin > 1 && text[begin] == ZERO {
+        return Field::NoNumber;
+    }
+    Field::Number {
+        value: value as u16,
+        end: i,
     }
 }
 
-// Copies the numbers that follow, up to a field that says none, into a list from a place on, as far as the list goes.
-pub fn copy_numbers(line: &[u8], at: usize, list: &mut [u16], from: usize)
-    ensures { λ _. ⌜ left list ≡ sets (given list) from (leading (fieldsFrom (given line) at)) ⌝ }
+// The field behind one that ends at a place of a text, in the same line.
+pub fn field_behind(text: &[u8], at: usize) -> Field
+    ensures { λ r. ⌜ r ≡ firstField (fieldsBehind (given text) at) at ⌝ }
+{
+    if at >= text.len() {
+        return Field::NoField;
+    }
+    if text[at] == LINE_FEED {
+        return Field::NoField;
+    }
+    number_at(text, at + 1)
+}
+
+// How many fields follow in the line, if each says a number, and where the line ends.
+pub enum Copied {
+    Numbers { count: usize, end: usize },
+    NoNumber,
+}
+
+// Copies the numbers behind a place, up to a field that says none, into a list from a place on, as far as the list goes.
+pub fn copy_behind(text: &[u8], at: usize, list: &mut [u16], from: usize) -> Copied
+    ensures { λ r. ⌜ (r ≡ copied (numbersOf (fieldsBehind (given text) at)) (lineEnd (given text) at))
+        × (left list ≡ sets (given list) from (leading (fieldsBehind (given text) at))) ⌝ }
 {
     let mut place = at;
-    let mut i = from;
-    while i < list.len() {
-        let field = next_field(line, place);
+    let mut count: usize = 0;
+    let mut next = from;
+    loop {
+        let field = field_behind(text, place);
         match field {
             Field::Number { value, end } => {
-                list[i] = value;
-                i += 1;
+                count += 1;
                 place = end;
+                if next < list.len() {
+                    list[next] = value;
+                    next += 1;
+                }
             }
             Field::NoNumber => {
-                return;
+                return Copied::NoNumber;
             }
             Field::NoField => {
-                return;
+                return Copied::Numbers { count, end: place };
             }
         }
     }

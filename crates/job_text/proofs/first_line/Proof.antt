@@ -7,22 +7,22 @@ use Rattle.job_text.proofs.first_line.Statement.{statement}
 use Rattle.job_text.proofs.first_line.Tie as tie
 
 returns : tie.Need-returns
-returns c = λ bytes l. rw (c .before .before .said .given .1) (no-nodes _ (c .if1 .taken))
+returns c = λ path l. rw (c .before .before .told .given .1) (no-nodes _ (c .if1 .taken))
 
 returns-2 : tie.Need-returns-2
-returns-2 c = λ bytes l. rw (c .before .before .before .before .said .given .1) (nodes-over _ (c .before .before .if1 .left) (omega arith))
+returns-2 c = λ path l. rw (c .before .before .before .before .told .given .1) (nodes-over _ (c .before .before .if1 .left) (omega arith))
 
 returns-3 : tie.Need-returns-3
-returns-3 c = λ bytes l. rw (c .before .before .before .before .said .given .1) (nodes-begin _ (c .before .before .if1 .left) (omega arith))
+returns-3 c = λ path l. rw (c .before .before .before .before .told .given .1) (nodes-begin _ (c .before .before .if1 .left) (omega arith))
 
 returns-4 : tie.Need-returns-4
-returns-4 c = λ bytes l. took-refusal (rw (c .enum-told .given .1))
+returns-4 c = λ path l. took-refusal (rw (c .enum-told .given .1))
 
 returns-5 : tie.Need-returns-5
-returns-5 c = λ bytes l. took-refusal (rw (c .enum-told2 .given .1))
+returns-5 c = λ path l. took-refusal (rw (c .enum-told2 .given .1))
 
 returns-6 : tie.Need-returns-6
-returns-6 c = λ bytes l. took-refusal (rw (c .enum-told3 .given .1))
+returns-6 c = λ path l. took-refusal (rw (c .enum-told3 .given .1))
 
 pub first-line-spec : {M : Type 1} → statement M
 first-line-spec =
