@@ -1,4 +1,2 @@
-pub mod InARow
-pub mod Reading
 pub mod Printing
 pub mod OneAnswer

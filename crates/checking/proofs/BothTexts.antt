@@ -1,10 +1,10 @@
 -- From what the job's reader leaves in its lists to what the two texts come to.
-use mathlib.Core.Path.{_≡_, refl, sym, ap, _∙_}
+use mathlib.Core.Path.{_≡_, refl, _∙_}
 use mathlib.Core.Bool.{true}
 use mathlib.Core.List.{List}
 use Prim.Native.Nat.{ℕ, _-_, _≤_}
 use native.Mathlib.Omega.{arith}
-use lib.ListN.{length, take}
+use lib.ListN.{length, take, replicate, length-replicate}
 use borrow.Author.Tests.{le-leb}
 use Rattle.rules.specs.Sizes.{packetsMost}
 use Rattle.rules.specs.Network.{Job}
@@ -25,8 +25,7 @@ use Rattle.job_text.specs.declared.Reading.{Reading}
 use Rattle.job_text.specs.declared.Reading.the-variants.{Read, Refused}
 use Rattle.job_text.specs.Told.{Lists, roomy, readIn, countsOf, ReadAs}
 use Rattle.job_text.specs.SoFar.{soFar}
-use Rattle.job_text.proofs.Accepts.{read-stands}
-use Rattle.answer.proofs.Reading.{read-in}
+use Rattle.job_text.proofs.Accepts.{read-stands, read-in}
 use Rattle.checking.proofs.InTurn.{comesTo}
 use Rattle.checking.specs.declared.Texts.the-variants.{JobRefused}
 use Rattle.checking.specs.Told.{textsOf}
@@ -69,3 +68,7 @@ module _ (job plan : List ℕ) {lent after : Lists} (h : roomy lent ≡ true) {t
         let same-packets : packets - 0 ≡ counts .packets = omega (arith, p) in
         let same-hops : hops - 0 ≡ counts .hops = omega (arith, h) in
         plan-comes-to (soFar counts after) (read-stands job (rw t at a)) (rw (same-links, same-packets, same-hops) at w)
+
+-- an array of starts has room for those of every job
+pub places : packetsMost ≤ length {A = ℕ} (replicate packetsMost 0)
+places = let n : length {A = ℕ} (replicate packetsMost 0) ≡ packetsMost = length-replicate {A = ℕ} packetsMost 0 in rw n (omega arith)

@@ -2,6 +2,7 @@ pub mod Stops
 pub mod PacketLoops
 pub mod Loads
 pub mod WritingPlans
+pub mod TextAnswered
 pub mod LineOfThree
 pub mod RowsLeft
 pub mod LinesTold

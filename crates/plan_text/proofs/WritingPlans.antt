@@ -1,16 +1,19 @@
 -- From the parts to the plan's text, from accepted lists to what the writer's own functions need of them, and from what was
 -- written to the answer.
 use mathlib.Core.Path.{_≡_, refl, sym, ap, _∙_}
+use mathlib.Core.Bool.{Bool, true, false}
 use mathlib.Core.List.{List, [], _∷_}
 use Prim.Native.Nat.{ℕ, _≤_, _<_}
 use native.Mathlib.Nat.{zero-add}
 use native.Mathlib.Omega.{arith}
+use lib.Dec.{leb}
 use lib.ListN.{length}
 use lib.Seq.{sets-eq}
-use borrow.Author.Tests.{le-leb, lt-leb}
+use borrow.Author.Tests.{le-leb, lt-leb, leb-true, leb-false}
 use Rattle.counting.specs.Count.{maxOf}
+use Rattle.rules.specs.Sizes.{packetsMost, planMost}
 use Rattle.rules.specs.Network.{Job, paths}
-use Rattle.rules.specs.Outcome.{is, refused}
+use Rattle.rules.specs.Outcome.{is, refused, fine}
 use Rattle.rules.specs.Travel.{oneStep, delayOf}
 use Rattle.rules.specs.Counts.{routingTime, linkCount}
 use Rattle.rules.specs.Bytes.{letterT, lineText}
@@ -18,16 +21,18 @@ use Rattle.rules.specs.PlanText.{packetLines, planText}
 use Rattle.rules.specs.Answers.{startedVerdict, inRoom, lentAfter, written}
 use Rattle.theorems.specs.Jobs.{IsJob, IsStarted}
 use Rattle.theorems.proofs.OneStep.{dilation-hops}
-use Rattle.theorems.proofs.Started.{started-fine-iff}
+use Rattle.theorems.proofs.Started.{started-fine-iff, started-plan-length}
 use Rattle.job.specs.declared.Refusal.{Refusal}
 use Rattle.job.specs.declared.Refusal.the-variants.{ShortRoom}
 use Rattle.job.specs.declared.Verdict.{Verdict}
 use Rattle.job.specs.declared.Verdict.the-variants.{Fine, Refused}
 use Rattle.job.specs.Told.{refusalOf, verdictOf}
-use Rattle.job.proofs.AfterVerdict.{after-refusal, after-fine}
+use Rattle.job.proofs.AfterVerdict.{after-refusal}
 use Rattle.lines.specs.Put.{Put}
 use Rattle.lines.proofs.Putting.{put-then}
-use Rattle.plan_text.specs.HopsInLists.{StopsOf, mostOften, Writable, ListsOf}
+use Rattle.plan_text.specs.HopsInLists.{Rising, StopsOf, mostOften, Writable, ListsOf}
+use Rattle.plan_text.specs.LastLine.{CountsOf}
+use Rattle.plan_text.specs.declared.Counts.{Counts}
 use Rattle.plan_text.specs.Told.{WrittenAs}
 use Rattle.plan_text.specs.declared.Written.the-variants.{Bytes, Refused as NotWritten}
 use Rattle.plan_text.proofs.Stops.{job-stops-of}
@@ -39,11 +44,31 @@ module _ {j : Job} {links : ℕ} {stops hops : List ℕ} (of : ListsOf j links s
   pub lists-stops : StopsOf (paths j) stops
   lists-stops = rw (← of .stops-same) (job-stops-of j (of .job))
 
-  pub text-put : (starts : List ℕ) {before between after : List ℕ} {at next time c d : ℕ} → Put before 0 (packetLines oneStep 0 starts (paths j)) between at
-      → time ≡ routingTime oneStep starts (paths j) → c ≡ mostOften links hops → d ≡ maxOf (λ p. length p) (paths j)
-      → Put between at (lineText letterT (time ∷ c ∷ d ∷ [])) after next → Put before 0 (planText j starts) after next
+  pub counts-of : {starts : List ℕ} {time c d : ℕ} → time ≡ routingTime oneStep starts (paths j) → c ≡ mostOften links hops → d ≡ maxOf (λ p. length p) (paths j)
+      → CountsOf j starts (record { time = time; c = c; d = d })
+  unfolding delayOf
+  counts-of t c d = record {
+    time-same = t;
+    c-same = c ∙ rw (← of .links-same, ← of .hops-same) (job-congestion j (of .job));
+    d-same = d ∙ sym (dilation-hops j);
+  }
+
+module _ {j : Job} {starts : List ℕ} {counts : Counts} (of : CountsOf j starts counts) where
+  pub text-put : {before between after : List ℕ} {at next : ℕ} → Put before 0 (packetLines oneStep 0 starts (paths j)) between at
+      → Put between at (lineText letterT (counts .time ∷ counts .c ∷ counts .d ∷ [])) after next → Put before 0 (planText j starts) after next
   unfolding planText delayOf
-  text-put starts p t c d q = put-then p (rw (t, c, ← of .links-same, ← of .hops-same, job-congestion j (of .job), d, ← dilation-hops j) at q)
+  text-put p q = put-then p (rw (of .time-same, of .c-same, of .d-same) at q)
+
+-- ---- whether the text fits
+
+pub ample-room : (j : Job) (starts : List ℕ) {bytes : ℕ} → startedVerdict j starts ≡ fine → planMost ≤ bytes → true ≡ leb (length (planText j starts)) bytes
+ample-room j starts {bytes} started ample =
+    let fits : length (planText j starts) ≤ bytes = omega (arith, ample, started-plan-length j starts started) in
+    sym (le-leb _ _ fits)
+
+-- what was put into another list, for its length
+pub tried-room : (bytes : ℕ) {other text tried : List ℕ} {next : ℕ} → Put other 0 text tried next → leb next bytes ≡ leb (length text) bytes
+tried-room bytes try = rw (try .past, zero-add)
 
 -- ---- the lists of a job
 
@@ -56,8 +81,13 @@ lists-writable {j} job count = record {
   count = count;
 }
 
+-- what the writer's own functions need of them
+pub writable-lines : {links : ℕ} {stops hops starts : List ℕ} → Writable links stops hops starts → Rising stops × (length starts ≡ length stops) × (length stops ≤ packetsMost)
+writable-lines w = (w .rising, w .count, w .packets-most)
+
 -- ---- the ways out
 
+-- after a verdict
 module _ (j : Job) (starts : List ℕ) (told : Verdict) (same : verdictOf told ≡ startedVerdict j starts) where
   written-refused : (r : Refusal) → told ≡ Refused r → (room : ℕ) → written j starts room ≡ refusalOf r
   unfolding written
@@ -67,36 +97,40 @@ module _ (j : Job) (starts : List ℕ) (told : Verdict) (same : verdictOf told �
   unfolding lentAfter
   write-refused r e lent = let a = written-refused r e (length lent) in record { bytes = rw a; room = rw a }
 
-  module _ (e : told ≡ Fine) where
-    started : IsStarted j starts
-    started = started-fine-iff j starts .0 (sym same ∙ ap verdictOf e)
+  pub fine-told : told ≡ Fine → startedVerdict j starts ≡ fine
+  fine-told e = sym same ∙ ap verdictOf e
 
-    pub fine-listed : Writable (linkCount j) (j .stops) (j .hops) starts
-    fine-listed = lists-writable (started .job) (started .count ∙ sym (started .job .stops-count))
+-- with accepted starts
+module _ (j : Job) (starts : List ℕ) (accepted : startedVerdict j starts ≡ fine) where
+  started : IsStarted j starts
+  started = started-fine-iff j starts .0 accepted
 
-    pub fine-lists : ListsOf j (linkCount j) (j .stops) (j .hops)
-    fine-lists = record { job = started .job; links-same = refl; stops-same = refl; hops-same = refl }
+  pub started-listed : Writable (linkCount j) (j .stops) (j .hops) starts
+  started-listed = lists-writable (started .job) (started .count ∙ sym (started .job .stops-count))
 
-    written-short : (room : ℕ) → room < length (planText j starts) → written j starts room ≡ refused 10 0
-    unfolding written inRoom
-    written-short room l = after-fine e same _ ∙ rw (lt-leb _ _ l)
+  pub started-lists : ListsOf j (linkCount j) (j .stops) (j .hops)
+  started-lists = record { job = started .job; links-same = refl; stops-same = refl; hops-same = refl }
 
-    written-text : (room : ℕ) → length (planText j starts) ≤ room → written j starts room ≡ is (planText j starts)
-    unfolding written inRoom
-    written-text room l = after-fine e same _ ∙ rw (le-leb _ _ l)
+  written-short : (room : ℕ) → room < length (planText j starts) → written j starts room ≡ refused 10 0
+  unfolding written inRoom
+  written-short room l = rw (accepted, lt-leb _ _ l)
 
-    -- the text was put into another list first, for its length
-    module _ {other tried : List ℕ} {bytes : ℕ} (try : Put other 0 (planText j starts) tried bytes) where
-      pub write-short : (lent : List ℕ) → length lent < bytes → WrittenAs (written j starts (length lent)) (NotWritten ShortRoom) lent lent
-      unfolding lentAfter
-      write-short lent l = let a = written-short (length lent) (omega (arith, try .past)) in record { bytes = rw a; room = rw a }
+  written-text : (room : ℕ) → length (planText j starts) ≤ room → written j starts room ≡ is (planText j starts)
+  unfolding written inRoom
+  written-text room l = rw (accepted, le-leb _ _ l)
 
-      pub write-filled : (lent : List ℕ) {after : List ℕ} {next : ℕ} → bytes ≤ length lent → Put lent 0 (planText j starts) after next → WrittenAs (written j starts (length lent)) (Bytes bytes) lent after
-      unfolding lentAfter
-      write-filled lent l p =
-          let h : length (planText j starts) ≤ length lent = omega (arith, try .past) in
-          let a = written-text (length lent) h in
-          record {
-            bytes = rw (a, try .past, zero-add);
-            room = rw a (p .stored ∙ sets-eq (planText j starts) lent 0 (omega arith) ∙ rw zero-add);
-          }
+  -- by whether the text fits
+  module _ (lent : List ℕ) {fit : Bool} (test : fit ≡ leb (length (planText j starts)) (length lent)) where
+    pub write-short : fit ≡ false → WrittenAs (written j starts (length lent)) (NotWritten ShortRoom) lent lent
+    unfolding lentAfter
+    write-short out = let a = written-short (length lent) (leb-false _ _ (sym test ∙ out)) in record { bytes = rw a; room = rw a }
+
+    pub write-filled : fit ≡ true → {after : List ℕ} {next : ℕ} → Put lent 0 (planText j starts) after next → WrittenAs (written j starts (length lent)) (Bytes next) lent after
+    unfolding lentAfter
+    write-filled inside p =
+        let h : length (planText j starts) ≤ length lent = leb-true _ _ (sym test ∙ inside) in
+        let a = written-text (length lent) h in
+        record {
+          bytes = rw (a, p .past, zero-add);
+          room = rw a (p .stored ∙ sets-eq (planText j starts) lent 0 (omega arith) ∙ rw zero-add);
+        }

@@ -1,19 +1,23 @@
-// The text of a plan: a job as lists and starts for its packets, written into bytes that the caller lends, and read back (reading.rt).
+// The text of a plan: a job as lists and starts for its packets, written into bytes that the caller lends, also
+// straight from a job's text (from_text.rt), and read back (reading.rt).
 ghost use mathlib.Core.Path.{_≡_};
 ghost use mathlib.Core.List.{List};
 ghost use Prim.Native.Nat.{ℕ, _+_, _*_, _≤_, _<_, max};
+ghost use lib.Dec.{leb};
 ghost use lib.ListN.{length, getD};
 ghost use Rattle.counting.specs.Count.{occurs, maxOf};
 ghost use Rattle.rules.specs.Handed.{given, left};
 ghost use Rattle.rules.specs.Sizes.{linksMost, packetsMost};
-ghost use Rattle.rules.specs.Network.{Job as RuledJob};
+ghost use Rattle.rules.specs.Network.{Job as RuledJob, paths};
+ghost use Rattle.rules.specs.Outcome.{fine};
 ghost use Rattle.rules.specs.Travel.{oneStep};
 ghost use Rattle.rules.specs.Counts.{routingTime};
 ghost use Rattle.rules.specs.PlanText.{packetLines, planText};
-ghost use Rattle.rules.specs.Answers.{written};
+ghost use Rattle.rules.specs.Answers.{startedVerdict, written};
 ghost use Rattle.job.specs.Lists.{jobIn};
 ghost use Rattle.lines.specs.Put.{Put, longestLine};
 ghost use Rattle.plan_text.specs.HopsInLists.{Rising, hopCount, StopsOf, Linked, mostOften, Writable, ListsOf};
+ghost use Rattle.plan_text.specs.LastLine.{CountsOf};
 ghost use Rattle.plan_text.specs.Told.{WrittenAs};
 use job::Hop;
 use job::Job;
@@ -23,6 +27,7 @@ use job::Verdict;
 use job::wide;
 use lines::writing;
 
+pub mod from_text;
 pub mod reading;
 
 fn greater(a: u32, b: u32) -> u32
@@ -125,17 +130,48 @@ fn packet_lines(room: &mut [u8], stops: &[u16], starts: &[u16]) -> usize
     at
 }
 
+// What the plan's last line says: routing time, C and D.
+struct Counts {
+    time: u32,
+    c: u32,
+    d: u32,
+}
+
+impl Counts {
+    // Those of the packets with these starts.
+    fn of(links: usize, stops: &[u16], hops: &[u16], starts: &[u16]) -> Counts
+        requires { ⌜ Writable links (now stops) (now hops) (now starts) ⌝ }
+        ensures { λ r. ⌜ ((j : RuledJob) → ListsOf j links (given stops) (given hops) → CountsOf j (given starts) r) ⌝ }
+    {
+        let time = routing_time(stops, starts);
+        let c = congestion(links, hops);
+        let d = dilation(stops);
+        Counts { time, c, d }
+    }
+}
+
 // Writes the plan's text, as far as the room goes, and gives its length.
-fn text(room: &mut [u8], links: usize, stops: &[u16], hops: &[u16], starts: &[u16]) -> usize
-    requires { ⌜ Writable links (now stops) (now hops) (now starts) ⌝ }
-    ensures { λ r. ⌜ ((j : RuledJob) → ListsOf j links (given stops) (given hops) → Put (given room) 0 (planText j (given starts)) (left room) r) ⌝ }
+fn text(room: &mut [u8], stops: &[u16], starts: &[u16], counts: Counts) -> usize
+    requires { ⌜ Rising (now stops) × (length (now starts) ≡ length (now stops)) × (length (now stops) ≤ packetsMost) ⌝ }
+    ensures { λ r. ⌜ ((j : RuledJob) → StopsOf (paths j) (given stops) → CountsOf j (given starts) counts
+        → Put (given room) 0 (planText j (given starts)) (left room) r) ⌝ }
     ensures near { λ r. ⌜ r ≤ longestLine 3 * packetsMost + longestLine 3 ⌝ }
 {
     let at = packet_lines(room, stops, starts);
-    let time = routing_time(stops, starts);
-    let c = congestion(links, hops);
-    let d = dilation(stops);
-    writing::line_of_three(room, at as u32, b'T', time, c, d)
+    writing::line_of_three(room, at as u32, b'T', counts.time, counts.c, counts.d)
+}
+
+// Whether the plan's text has no more than so many bytes. For fewer than the longest plan may have, it goes into a room of one byte, for its length.
+fn fits_in(bytes: usize, stops: &[u16], starts: &[u16], counts: Counts) -> bool
+    requires { ⌜ Rising (now stops) × (length (now starts) ≡ length (now stops)) × (length (now stops) ≤ packetsMost) ⌝ }
+    ensures { λ r. ⌜ ((j : RuledJob) → startedVerdict j (given starts) ≡ fine → StopsOf (paths j) (given stops) → CountsOf j (given starts) counts
+        → r ≡ leb (length (planText j (given starts))) bytes) ⌝ }
+{
+    if bytes >= Job::PLAN {
+        return true;
+    }
+    let mut trial = [0; 1];
+    text(&mut trial, stops, starts, counts) <= bytes
 }
 
 // The number of bytes written, or the refusal.
@@ -144,7 +180,26 @@ pub enum Written {
     Refused(Refusal),
 }
 
-// Writes the plan of a job as lists with starts for its packets. The text goes first into a room of one byte, for its length.
+// Writes the plan of an accepted job with accepted starts, if the room holds it.
+pub(crate) fn write_accepted(
+    links: usize,
+    stops: &[u16],
+    hops: &[u16],
+    starts: &[u16],
+    room: &mut [u8],
+) -> Written
+    requires { ⌜ Writable links (now stops) (now hops) (now starts) ⌝ }
+    ensures { λ r. ⌜ ((j : RuledJob) → ListsOf j links (given stops) (given hops) → startedVerdict j (given starts) ≡ fine
+        → WrittenAs (written j (given starts) (length (given room))) r (given room) (left room)) ⌝ }
+{
+    let counts = Counts::of(links, stops, hops, starts);
+    if !fits_in(room.len(), stops, starts, counts) {
+        return Written::Refused(Refusal::ShortRoom);
+    }
+    Written::Bytes(text(room, stops, starts, counts) as u32)
+}
+
+// Writes the plan of a job as lists with starts for its packets.
 pub fn write(
     nodes: u16,
     origins: &[u16],
@@ -161,11 +216,5 @@ pub fn write(
     if let Verdict::Refused(refusal) = verdict {
         return Written::Refused(refusal);
     }
-    let mut trial = [0; 1];
-    let bytes = text(&mut trial, origins.len(), stops, hops, starts);
-    if bytes > room.len() {
-        return Written::Refused(Refusal::ShortRoom);
-    }
-    text(room, origins.len(), stops, hops, starts);
-    Written::Bytes(bytes as u32)
+    write_accepted(origins.len(), stops, hops, starts, room)
 }

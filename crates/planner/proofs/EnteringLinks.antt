@@ -1,7 +1,7 @@
--- Entering links: what one more entry changes, and what the entries along a path come to.
+-- Entering links: what one more entry changes, and what many entries, and those along a path, come to.
 use mathlib.Core.Path.{_≡_, refl, sym, ap, _∙_}
-use mathlib.Core.Bool.{Bool, true, false, _||_, _&&_, or-false, or-assoc}
-use mathlib.Core.List.{List, [], _∷_, _++_}
+use mathlib.Core.Bool.{Bool, true, false}
+use mathlib.Core.List.{List, [], _∷_, _++_, append-nil, append-assoc}
 use mathlib.Core.Logic.{_⊎_, inl, inr, ⊎-map}
 use Prim.Native.Nat.{ℕ, suc, _+_, _-_, _≤_, _<_}
 use native.Mathlib.Omega.{arith}
@@ -9,14 +9,16 @@ use lib.Dec.{eqb}
 use lib.ListN.{length, getD, take, drop, set, length-set, length-drop, drop-of-length-le}
 use lib.Seq.{drop-set-add, drop-set-lt, take-suc-set, take-set-le, getD-set-same, getD-set-other}
 use borrow.Author.Tests.{eqb-true, eqb-false, eq-eqb}
-use Rattle.counting.specs.Count.{bit, among, occurs}
-use Rattle.counting.proofs.Tests.{any-append}
-use Rattle.counting.proofs.Sums.{sum-drop-le}
+use Rattle.counting.specs.Count.{pick, bit, occurs}
+use Rattle.counting.proofs.Sums.{sum-append}
 use Rattle.counting.proofs.Places.{from-place, one-more-at}
 use Rattle.rules.specs.Travel.{oneStep}
-use Rattle.rules.specs.Claims.{linkClaims, place, takes}
+use Rattle.rules.specs.Claims.{linkClaims, place}
 use Rattle.planner.specs.PacketsInLists.{pathClaims}
-use Rattle.planner.specs.Entries.{stepsOn, entered, Rooms, RoomFor, EntriesAdded}
+use Rattle.planner.specs.Entries.{stepsOn, Rooms, RoomFor}
+use Rattle.planner.specs.Again.{stepsAt}
+use Rattle.planner.specs.EntriesAdded.{claimSteps, EntriesAdded}
+use Rattle.planner.proofs.StepsInOrder.{steps-at-append}
 
 -- ---- one entry
 
@@ -64,18 +66,17 @@ module _ (nexts : List ℕ) (l : ℕ) (on : l < length nexts) where
         rw (getD-set-other nexts l link (getD nexts l 0 + 1) 0 other)
         (part-kept steps (getD firsts link 0) (getD nexts link 0) (getD nexts l 0) t (free .rises link) (in-no-other link other))
 
-    one-more-entered : (link step : ℕ)
-        → entered firsts (nextsAfter nexts l) (stepsAfter nexts steps l t) link step ≡ (entered firsts nexts steps link step || (eqb l link && eqb t step))
-    unfolding entered
-    one-more-entered link step = go (eqb l link) refl
-      where
-        go : (b : Bool) → eqb l link ≡ b
-            → among step (stepsOn firsts (nextsAfter nexts l) (stepsAfter nexts steps l t) link)
-            ≡ (among step (stepsOn firsts nexts steps link) || (b && eqb t step))
-        go true e = rw (← eqb-true l link e, one-more-on, any-append, or-false)
-        go false e = rw (none-more-on link (λ q. eqb-false l link e (sym q)), or-false)
+-- which is an entry added: of one link, in one step
+one-added : (nexts steps : List ℕ) (l t : ℕ) → l < length nexts → EntriesAdded (l ∷ []) (t ∷ []) nexts steps (nextsAfter nexts l) (stepsAfter nexts steps l t)
+unfolding stepsAt
+one-added nexts steps l t on room firsts rooms free link = go (eqb l link) refl
+  where
+    go : (b : Bool) → eqb l link ≡ b
+        → stepsOn firsts (nextsAfter nexts l) (stepsAfter nexts steps l t) link ≡ stepsOn firsts nexts steps link ++ pick b (t ∷ []) []
+    go true e = rw (← eqb-true l link e) (one-more-on nexts l on steps [] firsts t room rooms free)
+    go false e = none-more-on nexts l on steps [] firsts t room rooms free link (λ q. eqb-false l link e (sym q)) ∙ sym (append-nil _)
 
--- ---- the entries along a path
+-- ---- the entries of many
 
 -- what was entered is no longer to come: there is room for the rest
 pub room-for-rest : {all rest firsts nexts₀ nexts : List ℕ} {room : ℕ → ℕ} → RoomFor all room firsts nexts₀ → ((link : ℕ) → getD nexts₀ link 0 ≤ getD nexts link 0)
@@ -85,50 +86,89 @@ room-for-rest free grows counts = record {
   fits = λ link. omega (arith, free .fits link, counts link);
 }
 
--- the entries so far, and those that the rest of the path will make: in whatever rooms there was place for all of them
-pub record EnteredSoFar (path nexts₀ steps₀ nexts steps : List ℕ) (start hop offset : ℕ) : Type 0 where
+-- there is room for the front of what there is room for
+room-for-front : (front rest : List ℕ) {firsts nexts : List ℕ} {room : ℕ → ℕ} → RoomFor (front ++ rest) room firsts nexts → RoomFor front room firsts nexts
+room-for-front front rest free = record {
+  rises = free .rises;
+  fits = λ link. omega (arith, free .fits link, sum-append (λ l. bit (eqb l link)) front rest);
+}
+
+-- the entries so far, and those that are left: the links and their steps, side by side
+pub record EnteredSoFar (links all nexts₀ steps₀ rest later nexts steps : List ℕ) : Type 0 where
   pub nexts-length : length nexts ≡ length nexts₀
   pub steps-length : length steps ≡ length steps₀
-  pub counts : (link : ℕ) → getD nexts link 0 + occurs link (drop hop path) ≡ getD nexts₀ link 0 + occurs link path
-  pub entries : (room : ℕ → ℕ) (firsts : List ℕ) → Rooms room firsts (length steps₀) → RoomFor path room firsts nexts₀ → (link step : ℕ)
-      → (entered firsts nexts steps link step || takes (place start (linkClaims oneStep offset (drop hop path))) link step)
-      ≡ (entered firsts nexts₀ steps₀ link step || takes (place start (pathClaims path)) link step)
+  pub grows : (link : ℕ) → getD nexts₀ link 0 ≤ getD nexts link 0
+  pub counts : (link : ℕ) → getD nexts link 0 + occurs link rest ≡ getD nexts₀ link 0 + occurs link links
+  pub entries : (room : ℕ → ℕ) (firsts : List ℕ) → Rooms room firsts (length steps₀) → RoomFor links room firsts nexts₀ → (link : ℕ)
+      → stepsOn firsts nexts steps link ++ stepsAt link rest later ≡ stepsOn firsts nexts₀ steps₀ link ++ stepsAt link links all
 
-pub entered-start : {path nexts steps : List ℕ} {start : ℕ} → EnteredSoFar path nexts steps nexts steps start 0 0
-entered-start = record { nexts-length = refl; steps-length = refl; counts = λ link. refl; entries = λ room firsts rooms free link step. refl }
+pub entered-start : {links all nexts steps : List ℕ} → EnteredSoFar links all nexts steps links all nexts steps
+entered-start = record {
+  nexts-length = refl;
+  steps-length = refl;
+  grows = λ link. omega arith;
+  counts = λ link. refl;
+  entries = λ room firsts rooms free link. refl;
+}
 
-module _ {path nexts₀ steps₀ nexts steps : List ℕ} {start hop offset : ℕ} (so-far : EnteredSoFar path nexts₀ steps₀ nexts steps start hop offset) where
+module _ {links all nexts₀ steps₀ nexts steps : List ℕ} where
+  -- the front of what is left is entered
+  pub entered-turn : (front now-steps rest later : List ℕ) {nexts′ steps′ : List ℕ} → EnteredSoFar links all nexts₀ steps₀ (front ++ rest) (now-steps ++ later) nexts steps
+      → length front ≡ length now-steps → length nexts′ ≡ length nexts → length steps′ ≡ length steps
+      → ((link : ℕ) → getD nexts′ link 0 ≡ getD nexts link 0 + occurs link front) → EntriesAdded front now-steps nexts steps nexts′ steps′
+      → EnteredSoFar links all nexts₀ steps₀ rest later nexts′ steps′
+  entered-turn front now-steps rest later so-far e n s more added = record {
+    nexts-length = n ∙ so-far .nexts-length;
+    steps-length = s ∙ so-far .steps-length;
+    grows = λ link. omega (arith, more link, so-far .grows link);
+    counts = λ link. omega (arith, more link, so-far .counts link, sum-append (λ l. bit (eqb l link)) front rest);
+    entries = λ room firsts rooms free link.
+        let left : RoomFor (front ++ rest) room firsts nexts = room-for-rest free (so-far .grows) (so-far .counts) in
+        rw (added room firsts (rw (so-far .steps-length) rooms) (room-for-front front rest left) link) (
+        append-assoc (stepsOn firsts nexts steps link) (stepsAt link front now-steps) (stepsAt link rest later)
+        ∙ rw (← steps-at-append link front rest now-steps later e) (so-far .entries room firsts rooms free link)
+        );
+  }
+
+  module _ {later : List ℕ} (so-far : EnteredSoFar links all nexts₀ steps₀ [] later nexts steps) where
+    pub entered-done : EntriesAdded links all nexts₀ steps₀ nexts steps
+    unfolding stepsAt
+    entered-done room firsts rooms free link = sym (append-nil (stepsOn firsts nexts steps link)) ∙ so-far .entries room firsts rooms free link
+
+    pub nexts-done : (link : ℕ) → getD nexts link 0 ≡ getD nexts₀ link 0 + occurs link links
+    nexts-done link = omega (arith, so-far .counts link)
+
+-- ---- along a path
+
+-- before a hop what is left is the path from it on
+pub record EnteredToHop (path nexts₀ steps₀ nexts steps : List ℕ) (start hop offset : ℕ) : Type 0 where
+  pub so-far : EnteredSoFar path (claimSteps (place start (pathClaims path))) nexts₀ steps₀ (drop hop path) (claimSteps (place start (linkClaims oneStep offset (drop hop path)))) nexts steps
+
+pub path-start : {path nexts steps : List ℕ} {start : ℕ} → EnteredToHop path nexts steps nexts steps start 0 0
+path-start = record { so-far = entered-start }
+
+module _ {path nexts₀ steps₀ nexts steps : List ℕ} {start hop offset : ℕ} (w : EnteredToHop path nexts₀ steps₀ nexts steps start hop offset) where
   module _ (more : hop < length path) where
     abbrev l : ℕ
     l = getD path hop 0
 
     pub next-within : getD nexts₀ l 0 + occurs l path ≤ length steps₀ → getD nexts l 0 < length steps
-    next-within fits = omega (arith, so-far .steps-length, rw (from-place path hop more, eq-eqb l l refl) at (so-far .counts l))
+    next-within fits = omega (arith, w .so-far .steps-length, rw (from-place path hop more, eq-eqb l l refl) at (w .so-far .counts l))
 
-    claims-next : (link step : ℕ) → takes (place start (linkClaims oneStep offset (drop hop path))) link step
-        ≡ ((eqb l link && eqb (start + offset) step) || takes (place start (linkClaims oneStep (offset + oneStep l) (drop (hop + 1) path))) link step)
-    unfolding takes linkClaims
-    claims-next link step = rw (from-place path hop more)
-
-    pub entered-turn : l < length nexts
-        → EnteredSoFar path nexts₀ steps₀ (nextsAfter nexts l) (stepsAfter nexts steps l (start + offset)) start (hop + 1) (offset + oneStep l)
-    entered-turn on = record {
-      nexts-length = length-set nexts l _ ∙ so-far .nexts-length;
-      steps-length = length-set steps _ _ ∙ so-far .steps-length;
-      counts = λ link. rw (one-more-at nexts l link on) (omega (arith, rw (from-place path hop more) at (so-far .counts link)));
-      entries = λ room firsts rooms free link step.
-          let grows : (m : ℕ) → getD nexts₀ m 0 ≤ getD nexts m 0 = λ m. omega (arith, so-far .counts m, sum-drop-le (λ l. bit (eqb l m)) hop path) in
-          let left : RoomFor (drop hop path) room firsts nexts = room-for-rest free grows (so-far .counts) in
-          let here = rw (from-place path hop more) at left in
-          let still : Rooms room firsts (length steps) = rw (so-far .steps-length) rooms in
-          rw (one-more-entered nexts l on steps (drop (hop + 1) path) firsts (start + offset) room still here link step, or-assoc)
-          (rw (claims-next link step) at (so-far .entries room firsts rooms free link step));
+    pub path-turn : l < length nexts
+        → EnteredToHop path nexts₀ steps₀ (nextsAfter nexts l) (stepsAfter nexts steps l (start + offset)) start (hop + 1) (offset + oneStep l)
+    unfolding claimSteps linkClaims
+    path-turn on = record {
+      so-far = entered-turn (l ∷ []) ((start + offset) ∷ []) (drop (hop + 1) path) _ (rw (from-place path hop more) at (w .so-far)) refl (length-set nexts l _) (length-set steps _ _)
+          (λ link. omega (arith, one-more-at nexts l link on)) (one-added nexts steps l (start + offset) on);
     }
 
-  pub entered-done : length path ≤ hop → EntriesAdded path start nexts₀ steps₀ nexts steps
-  unfolding takes linkClaims
-  entered-done all room firsts rooms free link step =
-      sym (or-false (entered firsts nexts steps link step)) ∙ rw (drop-of-length-le path {i = hop} all) at (so-far .entries room firsts rooms free link step)
+  module _ (all : length path ≤ hop) where
+    none-left : EnteredSoFar path (claimSteps (place start (pathClaims path))) nexts₀ steps₀ [] (claimSteps (place start (linkClaims oneStep offset []))) nexts steps
+    none-left = rw (drop-of-length-le path {i = hop} all) at (w .so-far)
 
-  pub nexts-done : length path ≤ hop → (link : ℕ) → getD nexts link 0 ≡ getD nexts₀ link 0 + occurs link path
-  nexts-done all link = omega (arith, rw (drop-of-length-le path {i = hop} all) at (so-far .counts link))
+    pub path-added : EntriesAdded path (claimSteps (place start (pathClaims path))) nexts₀ steps₀ nexts steps
+    path-added = entered-done none-left
+
+    pub path-counted : (link : ℕ) → getD nexts link 0 ≡ getD nexts₀ link 0 + occurs link path
+    path-counted = nexts-done none-left

@@ -8,7 +8,7 @@ use native.Mathlib.Omega.{arith}
 use native.Mathlib.Numerals.{add-one}
 use lib.ListN.{length, getD, take, drop, set, length-take, length-drop, take-append-drop}
 use lib.Seq.{take-suc, take-suc-set, length-take-le, drop-drop}
-use Rattle.counting.specs.Count.{anyOf, occurs}
+use Rattle.counting.specs.Count.{anyOf, among, occurs}
 use Rattle.counting.proofs.Tests.{any-append}
 use Rattle.counting.proofs.Sums.{sum-append}
 use Rattle.counting.proofs.Places.{at-getD, at-mem}
@@ -20,8 +20,11 @@ use Rattle.theorems.proofs.Accepted.{length-paths-from}
 use Rattle.theorems.proofs.HopsOnPaths.{mem-paths}
 use Rattle.marks.specs.Marks.{numbersMost}
 use Rattle.planner.specs.PacketsInLists.{SimplePaths, pathClaims, beginFrom, pathAt, before}
-use Rattle.planner.specs.Entries.{Below, stepsOn, entered, Parts, Searchable, FoundAmong, Rooms, RoomFor, Enterable, EntriesAdded, EntriesBefore}
+use Rattle.planner.specs.Entries.{Below, OnLinks, stepsOn, entered, Parts, Searchable, FoundAmong, Rooms, RoomFor, Enterable, EntriesBefore}
+use Rattle.planner.specs.Again.{stepsAt}
+use Rattle.planner.specs.EntriesAdded.{claimSteps, EntriesAdded}
 use Rattle.planner.proofs.PathParts.{part}
+use Rattle.planner.proofs.StepsInOrder.{among-path-steps}
 use Rattle.planner.proofs.EnteringLinks.{room-for-rest}
 use Rattle.planner.proofs.Filling.{startAt}
 use Rattle.planner.proofs.Searching.{start-le-begin}
@@ -36,7 +39,7 @@ module _ (stops hops : List ℕ) (simple : SimplePaths stops hops) (k : ℕ) (l 
       let own = at-mem ps k (at-getD ps k [] (omega (arith, length-paths-from 0 stops hops))) in
       omega (arith, simple .simple (getD ps k []) own .below _ (at-mem (getD ps k []) i (at-getD (getD ps k []) i 0 m)), simple .links-few)
 
-  path-end : beginFrom 0 stops k + length (pathAt stops hops k) ≡ getD stops k 0
+  pub path-end : beginFrom 0 stops k + length (pathAt stops hops k) ≡ getD stops k 0
   path-end =
       let p = part stops hops k simple l _ _ refl refl in
       omega (
@@ -52,7 +55,7 @@ module _ (stops hops : List ℕ) (simple : SimplePaths stops hops) (k : ℕ) (l 
   path-within = let p = part stops hops k simple l _ _ refl refl in omega (arith, path-end, p .within, simple .few)
 
   -- the hops from where it begins are its own and then those of the packets after it
-  hops-from-begin : drop (beginFrom 0 stops k) hops ≡ pathAt stops hops k ++ drop (getD stops k 0) hops
+  pub hops-from-begin : drop (beginFrom 0 stops k) hops ≡ pathAt stops hops k ++ drop (getD stops k 0) hops
   hops-from-begin =
       let p = part stops hops k simple l _ _ refl refl in
       let n = getD stops k 0 - beginFrom 0 stops k in
@@ -115,6 +118,16 @@ module _ (stops hops starts : List ℕ) (k : ℕ) (simple : SimplePaths stops ho
 
 -- ---- a packet more
 
+-- a link is entered in a step if it was, or if the packet takes it then
+entered-added : (path nexts steps nexts′ steps′ firsts : List ℕ) (s : ℕ) {room : ℕ → ℕ}
+    → EntriesAdded path (claimSteps (place s (pathClaims path))) nexts steps nexts′ steps′ → Rooms room firsts (length steps) → RoomFor path room firsts nexts
+    → (link step : ℕ) → entered firsts nexts′ steps′ link step ≡ (entered firsts nexts steps link step || takes (place s (pathClaims path)) link step)
+unfolding entered
+entered-added path nexts steps nexts′ steps′ firsts s {room} added rooms free link step =
+    rw (added room firsts rooms free link)
+    (any-append _ (stepsOn firsts nexts steps link) (stepsAt link path (claimSteps (place s (pathClaims path))))
+    ∙ ap (λ (b : Bool). among step (stepsOn firsts nexts steps link) || b) (among-path-steps s path link step))
+
 module _ (stops hops starts : List ℕ) (k s : ℕ) (l : k < length stops) (room : k < length starts) where
   before-next : before stops hops (set starts k s) (k + 1) ≡ before stops hops starts k ++ (place s (pathClaims (pathAt stops hops k)) ∷ [])
   unfolding before pathAt
@@ -136,7 +149,7 @@ module _ (stops hops starts : List ℕ) (k s : ℕ) (l : k < length stops) (room
   module _ (simple : SimplePaths stops hops) (firsts nexts steps : List ℕ) (c : EntriesBefore stops hops starts k firsts nexts steps)
       (path : List ℕ) (is-path : path ≡ pathAt stops hops k) (nexts′ steps′ : List ℕ) (same-nexts : length nexts′ ≡ length nexts) (same-steps : length steps′ ≡ length steps) where
     pub entries-next : ((link : ℕ) → getD nexts′ link 0 ≡ getD nexts link 0 + occurs link path)
-        → EntriesAdded path s nexts steps nexts′ steps′
+        → EntriesAdded path (claimSteps (place s (pathClaims path))) nexts steps nexts′ steps′
         → EntriesBefore stops hops (set starts k s) (k + 1) firsts nexts′ steps′
     entries-next more added = record {
       firsts-length = c .firsts-length;
@@ -147,32 +160,36 @@ module _ (stops hops starts : List ℕ) (k s : ℕ) (l : k < length stops) (room
           (λ link. omega (arith, more link, both stops hops starts k simple l firsts nexts steps c path is-path link)));
       entries = record {
         same = λ link step.
-            added _ firsts (rw (c .steps-length) (c .rooms)) (room-for-path stops hops starts k simple l firsts nexts steps c path is-path) link step
+            entered-added path nexts steps nexts′ steps′ firsts s added (rw (c .steps-length) (c .rooms)) (room-for-path stops hops starts k simple l firsts nexts steps c path is-path) link step
             ∙ rw (c .entries .same link step, is-path) (sym (taken-next link step));
       };
     }
 
 -- ---- no packet yet
 
--- every hop is on a link that has a place
-pub hops-below : (stops hops : List ℕ) → SimplePaths stops hops → Below hops linksMost
-hops-below stops hops simple i m =
-    let (path, own, on-path) = mem-paths 0 stops hops (simple .agree) (at-mem hops i (at-getD hops i 0 m)) in
-    omega (arith, simple .simple path own .below _ on-path, simple .links-few)
+-- every hop is on one of the links
+pub hops-on-links : (stops hops : List ℕ) (simple : SimplePaths stops hops) → OnLinks (simple .links) hops
+hops-on-links stops hops simple = (
+  λ i m.
+      let (path, own, on-path) = mem-paths 0 stops hops (simple .agree) (at-mem hops i (at-getD hops i 0 m)) in
+      simple .simple path own .below _ on-path,
+  simple .links-few,
+)
 
--- the rooms are open for the loads of all hops, and nobody has entered one
-pub entries-none : (stops hops starts firsts nexts steps loads : List ℕ) → length hops ≤ hopsMost → ((link : ℕ) → getD loads link 0 ≡ occurs link hops)
-    → Rooms (λ link. getD loads link 0) firsts (length hops) → ((link : ℕ) → getD nexts link 0 ≡ getD firsts link 0)
-    → length firsts ≡ linksMost → length nexts ≡ linksMost → length steps ≡ hopsMost → EntriesBefore stops hops starts 0 firsts nexts steps
+-- and so on one that has a place
+pub hops-below : (stops hops : List ℕ) → SimplePaths stops hops → Below hops linksMost
+hops-below stops hops simple i m = let (below, few) = hops-on-links stops hops simple in omega (arith, below i m, few)
+
+-- there is room for all hops, and nobody has entered one
+pub entries-none : (stops hops starts firsts nexts steps : List ℕ) → length hops ≤ hopsMost → Rooms (λ link. occurs link hops) firsts (length hops)
+    → ((link : ℕ) → getD nexts link 0 ≡ getD firsts link 0) → length firsts ≡ linksMost → length nexts ≡ linksMost → length steps ≡ hopsMost
+    → EntriesBefore stops hops starts 0 firsts nexts steps
 unfolding entered stepsOn taken before placed
-entries-none stops hops starts firsts nexts steps loads few counted opened empty f n s = record {
+entries-none stops hops starts firsts nexts steps few opened empty f n s = record {
   firsts-length = f;
   nexts-length = n;
   steps-length = s;
-  rooms = record {
-    within = λ link. omega (arith, opened .within link, counted link);
-    apart = λ link other differ. rw (← counted link, ← counted other) (opened .apart link other differ);
-  };
+  rooms = record { within = λ link. omega (arith, opened .within link); apart = opened .apart };
   room-left = record { rises = λ link. omega (arith, empty link); fits = λ link. omega (arith, empty link) };
   entries = record {
     same = λ link step. let z : getD nexts link 0 - getD firsts link 0 ≡ 0 = omega (arith, empty link) in rw z;

@@ -4,18 +4,25 @@ use mathlib.Core.List.{List}
 use mathlib.Core.Option.{Option}
 use Prim.Native.Nat.{ℕ}
 use lib.IntN.{ℤ}
+use Rattle.rules.specs.Network.{Job}
 use Rattle.rules.specs.Outcome.{Outcome, is, refused}
 use Rattle.rules.specs.Check.{Clash as RuledClash}
 use Rattle.job.specs.declared.Verdict.{Verdict}
 use Rattle.job.proofs.OneAnswer.{numbered, numbered-refusal, verdict-injective}
+use Rattle.job_text.specs.declared.Reading.{Reading}
+use Rattle.job_text.specs.Told.{Lists}
+use Rattle.job_text.proofs.OneAnswer.{read-once}
 use Rattle.planner.specs.declared.Checked.{Checked}
 use Rattle.planner.specs.declared.Checked.the-variants.{Clear, Clash, Refused as ClashRefused}
 use Rattle.planner.specs.declared.Led.{Led}
 use Rattle.planner.specs.declared.Led.the-variants.{By, Refused as LeadRefused}
-use Rattle.planner.specs.Told.{checkedOf, clearOr, ledOf, PlannedAs}
+use Rattle.planner.specs.Told.{checkedOf, clearOr, ledOf, PlannedAs, ReadAndPlannedAs}
 
 pub planned-once : {answer : Outcome (List ℕ)} {v w : Verdict} {lent after other : List ℕ} → PlannedAs answer v lent after → PlannedAs answer w lent other → (v ≡ w) × (after ≡ other)
 planned-once p q = (verdict-injective _ _ (p .verdict ∙ sym (q .verdict)), p .list ∙ sym (q .list))
+
+pub read-and-planned-once : {outcome : Outcome Job} {r s : Reading} {lent after other : Lists} {starts these those : List ℕ} → ReadAndPlannedAs outcome r lent after starts these → ReadAndPlannedAs outcome s lent other starts those → (r ≡ s) × (after ≡ other) × (these ≡ those)
+read-and-planned-once p q = let (told, lists) = read-once (p .read) (q .read) in (told, lists, p .planned ∙ sym (q .planned))
 
 -- the check's answer as it is told
 abbrev shown : Outcome (Option RuledClash) → Checked

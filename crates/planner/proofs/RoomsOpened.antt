@@ -28,6 +28,10 @@ total-front-suc (x ∷ xs) (suc n) = omega (arith, total-front-suc xs n)
 le-total : (xs : List ℕ) (i : ℕ) → getD xs i 0 ≤ total xs
 le-total xs i = omega (arith, total-front-suc xs i, sum-take-le (λ x. x) (suc i) xs)
 
+pub no-total : (xs : List ℕ) → ((i : ℕ) → getD xs i 0 ≡ 0) → total xs ≡ 0
+no-total [] none = refl
+no-total (x ∷ xs) none = omega (arith, none 0, no-total xs (λ i. none (suc i)))
+
 one-more-total : (xs : List ℕ) (i : ℕ) → i < length xs → total (set xs i (getD xs i 0 + 1)) ≡ total xs + 1
 one-more-total [] i h = absurd (not-suc-le-zero h)
 one-more-total (x ∷ xs) zero h = omega arith
@@ -144,3 +148,14 @@ module _ {hops link place : ℕ} {loads firsts nexts : List ℕ} (w : Opened hop
       | yes l ↦ w .next .begun i l ∙ sym (w .first .begun i l)
       | no l ↦ omega (arith, w .next .ahead i (omega arith), w .first .ahead i (omega arith), no-load-ahead i (omega arith))
     ]
+
+-- ---- rooms for the hops that were counted
+
+pub rooms-for-hops : (hops before loads : List ℕ) {firsts : List ℕ} → ((link : ℕ) → getD before link 0 ≡ 0) → ((link : ℕ) → getD loads link 0 ≡ getD before link 0 + occurs link hops)
+    → Rooms (λ link. getD loads link 0) firsts (length hops) → Rooms (λ link. occurs link hops) firsts (length hops)
+rooms-for-hops hops before loads none counted opened =
+    let load : (link : ℕ) → getD loads link 0 ≡ occurs link hops = λ link. omega (arith, none link, counted link) in
+    record {
+      within = λ link. omega (arith, opened .within link, load link);
+      apart = λ link other differ. rw (← load link, ← load other) (opened .apart link other differ);
+    }

@@ -1,6 +1,6 @@
--- Packets listed before one: whether they take a link in a step, and how late the next one starts.
-use mathlib.Core.Path.{_≡_, refl, sym, ap₂, _∙_}
-use mathlib.Core.Bool.{true, false}
+-- Packets listed before one: how many hops they have, and so how late the next one starts.
+use mathlib.Core.Path.{_≡_, refl}
+use mathlib.Core.Bool.{true}
 use mathlib.Core.List.{List, [], _∷_}
 use mathlib.Core.Logic.{Iff·rfl}
 use Prim.Native.Nat.{ℕ, zero, suc, _+_, _≤_, _<_}
@@ -9,43 +9,20 @@ use native.Mathlib.Nat.{not-suc-le-zero, le-of-suc-le-suc}
 use lib.ListN.{length, getD, take}
 use lib.Seq.{length-slice}
 use Rattle.counting.specs.Count.{sumOf}
-use Rattle.counting.proofs.Tests.{any-mem, any-false}
-use Rattle.counting.proofs.Places.{some-same, at-getD, at-mem, mem-at, at-take, at-take-below, mem-take}
+use Rattle.counting.proofs.Places.{at-getD, at-mem, mem-take}
 use Rattle.rules.specs.Network.{pathsFrom}
 use Rattle.rules.specs.Tables.{stopsAgree}
 use Rattle.rules.specs.Travel.{oneStep}
-use Rattle.rules.specs.Claims.{Placed, place, takes, taken, placedBy}
+use Rattle.rules.specs.Claims.{placedBy}
 use Rattle.theorems.proofs.FirstFrees.{first-free-is}
-use Rattle.theorems.proofs.Placements.{placed-by-at, placed-by-split}
 use Rattle.theorems.proofs.Accepted.{length-paths-from, hops-from}
 use Rattle.theorems.proofs.Bounds.{links-start-le-meetings, meetings-le-hops}
 use Rattle.theorems.proofs.Verdicts.{leb-iff, and-iff}
-use Rattle.planner.specs.PacketsInLists.{SimplePaths, pathClaims, beginFrom, pathAt, packetEnters, before}
+use Rattle.planner.specs.PacketsInLists.{SimplePaths, pathClaims, beginFrom, pathAt, before}
 use Rattle.planner.proofs.Filling.{startAt}
 
-module _ (stops hops starts : List ℕ) (k : ℕ) (few : k ≤ length stops) (enough : k ≤ length starts) (link step : ℕ) where
-  pub taken-by-one : (i : ℕ) → i < k → packetEnters stops hops starts i link step ≡ true → taken (before stops hops starts k) link step ≡ true
-  unfolding taken before packetEnters pathAt
-  taken-by-one i l e =
-      any-mem (λ b. takes b link step) (at-mem (placedBy pathClaims (take k starts) (take k (pathsFrom 0 stops hops))) i (placed-by-at pathClaims (take k starts) (take k (pathsFrom 0 stops hops)) i
-      (at-take starts k i l ∙ at-getD starts i 0 (omega arith)) (at-take (pathsFrom 0 stops hops) k i l ∙ at-getD (pathsFrom 0 stops hops) i [] (omega (arith, length-paths-from 0 stops hops))))) e
-
-  pub taken-by-none : ((i : ℕ) → i < k → packetEnters stops hops starts i link step ≡ false) → taken (before stops hops starts k) link step ≡ false
-  unfolding taken before packetEnters pathAt
-  taken-by-none h =
-      any-false (λ b. takes b link step) (placedBy pathClaims (take k starts) (take k (pathsFrom 0 stops hops))) (λ b m.
-      let (i, e) = mem-at m in
-      let s = placed-by-split pathClaims (take k starts) (take k (pathsFrom 0 stops hops)) i e in
-      let l : i < k = at-take-below starts k i (s .is-start) in
-      let start : getD starts i 0 ≡ b .start = some-same (sym (at-getD starts i 0 (omega arith)) ∙ sym (at-take starts k i l) ∙ s .is-start) in
-      let path : getD (pathsFrom 0 stops hops) i [] ≡ s .packet = some-same (sym (at-getD (pathsFrom 0 stops hops) i [] (omega (arith, length-paths-from 0 stops hops))) ∙ sym (at-take (pathsFrom 0 stops hops) k i l) ∙ s .is-packet) in
-      same (s .is-placed ∙ ap₂ (λ t p. place t (pathClaims p)) (sym start) (sym path)) (h i l))
-    where
-      same : {b b′ : Placed} → b ≡ b′ → takes b′ link step ≡ false → takes b link step ≡ false
-      same p e = cc
-
 -- the paths of the packets before packet k have the hops up to where its own begins
-hops-before : (a : ℕ) (stops hops : List ℕ) (k : ℕ) → stopsAgree a stops (length hops) ≡ true → k ≤ length stops
+pub hops-before : (a : ℕ) (stops hops : List ℕ) (k : ℕ) → stopsAgree a stops (length hops) ≡ true → k ≤ length stops
     → sumOf (λ p. length p) (take k (pathsFrom a stops hops)) + a ≡ beginFrom a stops k
 unfolding pathsFrom stopsAgree
 hops-before a stops hops zero h l = omega arith

@@ -8,7 +8,7 @@ use Prim.Native.Nat.{ℕ, _+_, _-_, _*_, _≤_, _<_}
 use lib.ListN.{length, getD, take, drop}
 use Rattle.counting.specs.Count.{anyOf, among, sumOf, occurs}
 use Rattle.rules.specs.Sizes.{linksMost, hopsMost}
-use Rattle.rules.specs.Claims.{Claim, Placed, place, takes, taken}
+use Rattle.rules.specs.Claims.{Claim, Placed, taken}
 use Rattle.rules.specs.Greedy.{firstFree}
 use Rattle.marks.specs.Marks.{marked}
 use Rattle.planner.specs.PacketsInLists.{pathClaims, beginFrom, before}
@@ -37,9 +37,13 @@ ruledOut firsts nexts steps cs s = anyOf (λ c. entered firsts nexts steps (c .r
 abbrev pub widest : ℕ
 widest = 65535
 
--- every link of the list has a place in a list of n
+-- every number of the list is below n, as a link's is that has a place in a list of n
 abbrev pub Below : List ℕ → ℕ → Type 0
 Below links n = (i : ℕ) → i < length links → getD links i 0 < n
+
+-- every link of the list is one of n, which are no more than a job may have
+abbrev pub OnLinks : ℕ → List ℕ → Type 0
+OnLinks n links = Below links n × (n ≤ linksMost)
 
 -- each link's part runs from its first to its next, within n steps
 pub record Parts (firsts nexts : List ℕ) (n : ℕ) : Type 0 where
@@ -81,12 +85,6 @@ pub record RoomFor (links : List ℕ) (room : ℕ → ℕ) (firsts nexts : List 
 abbrev pub Enterable : (path : List ℕ) (start : ℕ) (nexts : List ℕ) → ℕ → Type 0
 Enterable path start nexts n =
     Below path (length nexts) × (start + length path ≤ widest) × (n ≤ widest) × ((link : ℕ) → getD nexts link 0 + occurs link path ≤ n)
-
--- and then the path's own entries are added, in whatever rooms there was room for them
-abbrev pub EntriesAdded : (path : List ℕ) (start : ℕ) (nexts steps nexts′ steps′ : List ℕ) → Type 0
-EntriesAdded path start nexts steps nexts′ steps′ =
-    (room : ℕ → ℕ) (firsts : List ℕ) → Rooms room firsts (length steps) → RoomFor path room firsts nexts → (link step : ℕ)
-    → entered firsts nexts′ steps′ link step ≡ (entered firsts nexts steps link step || takes (place start (pathClaims path)) link step)
 
 -- as the entries stand before packet k: those of the packets listed before it, with room left for all hops from its own on
 pub record EntriesBefore (stops hops starts : List ℕ) (k : ℕ) (firsts nexts steps : List ℕ) : Type 0 where

@@ -6,14 +6,17 @@ ghost use lib.ListN.{length, getD};
 ghost use Rattle.counting.specs.Count.{occurs};
 ghost use Rattle.rules.specs.Handed.{given, left};
 ghost use Rattle.rules.specs.Travel.{oneStep};
+ghost use Rattle.rules.specs.Claims.{place};
 ghost use Rattle.marks.specs.Marks.{numbersMost};
-ghost use Rattle.planner.specs.Entries.{widest, Below, Searchable, MarksAdded, FoundAmong, total, Rooms, Enterable, EntriesAdded};
+ghost use Rattle.planner.specs.PacketsInLists.{pathClaims};
+ghost use Rattle.planner.specs.Entries.{widest, Below, Searchable, MarksAdded, FoundAmong, total, Rooms, Enterable};
+ghost use Rattle.planner.specs.EntriesAdded.{claimSteps, EntriesAdded};
 use job::Hop;
 use job::Step;
 use job::wide;
 
 // Adds to each link's load how often it stands among the hops.
-pub(crate) fn count(hops: &[u16], loads: &mut [u16])
+fn count(hops: &[u16], loads: &mut [u16])
     requires { ⌜ Below (now hops) (length (now loads)) × (total (now loads) + length (now hops) ≤ widest) ⌝ }
     ensures { λ _. ⌜ ((link : ℕ) → getD (left loads) link 0 ≡ getD (given loads) link 0 + occurs link (given hops)) ⌝ }
     ensures sum { λ _. ⌜ total (left loads) ≡ total (given loads) + length (given hops) ⌝ }
@@ -28,7 +31,7 @@ pub(crate) fn count(hops: &[u16], loads: &mut [u16])
 
 // Opens a room for each link, as large as its load, one after the other until all entries to come have their place. At the call nexts has
 // the loads, and firsts is 0 throughout; nobody has entered a room yet.
-pub(crate) fn open(places: usize, firsts: &mut [u16], nexts: &mut [u16])
+fn open(places: usize, firsts: &mut [u16], nexts: &mut [u16])
     requires { ⌜ (total (now nexts) ≡ places) × (places ≤ widest) × (length (now firsts) ≡ length (now nexts))
         × ((link : ℕ) → getD (now firsts) link 0 ≡ 0) ⌝ }
     ensures { λ _. ⌜ Rooms (λ link. getD (given nexts) link 0) (left firsts) places ⌝ }
@@ -43,6 +46,18 @@ pub(crate) fn open(places: usize, firsts: &mut [u16], nexts: &mut [u16])
         place += load;
         link += 1;
     }
+}
+
+// Makes room for the entries of all hops: of each link, as often as it stands among them. At the call both lists are 0 throughout; nobody
+// has entered a room yet.
+pub(crate) fn make_room(hops: &[u16], firsts: &mut [u16], nexts: &mut [u16])
+    requires { ⌜ Below (now hops) (length (now nexts)) × (length (now hops) ≤ widest) × (length (now firsts) ≡ length (now nexts))
+        × ((link : ℕ) → getD (now firsts) link 0 ≡ 0) × ((link : ℕ) → getD (now nexts) link 0 ≡ 0) ⌝ }
+    ensures { λ _. ⌜ Rooms (λ link. occurs link (given hops)) (left firsts) (length (given hops)) ⌝ }
+    ensures empty { λ _. ⌜ ((link : ℕ) → getD (left nexts) link 0 ≡ getD (left firsts) link 0) ⌝ }
+{
+    count(hops, &mut nexts[..]);
+    open(hops.len(), firsts, nexts);
 }
 
 // How long after its start a packet enters the link that comes after this one.
@@ -91,7 +106,8 @@ pub(crate) fn search(
 pub(crate) fn enter(path: &[u16], start: u16, nexts: &mut [u16], steps: &mut [u16])
     requires { ⌜ Enterable (now path) start (now nexts) (length (now steps)) ⌝ }
     ensures { λ _. ⌜ ((link : ℕ) → getD (left nexts) link 0 ≡ getD (given nexts) link 0 + occurs link (given path)) ⌝ }
-    ensures entries { λ _. ⌜ EntriesAdded (given path) start (given nexts) (given steps) (left nexts) (left steps) ⌝ }
+    ensures entries { λ _. ⌜ EntriesAdded (given path) (claimSteps (place start (pathClaims (given path)))) (given nexts) (given steps)
+        (left nexts) (left steps) ⌝ }
 {
     let mut hop = 0;
     let mut offset: u16 = 0;

@@ -1,29 +1,32 @@
 // Start steps: the greedy plan of a job, the check of starts made elsewhere, and the lead of one packet over another.
 ghost use mathlib.Core.Path.{_≡_};
-ghost use mathlib.Core.Bool.{true};
 ghost use mathlib.Core.List.{[], _++_};
-ghost use mathlib.Core.Option.{some};
-ghost use Prim.Native.Nat.{_*_, _≤_, _<_};
-ghost use lib.ListN.{length, drop};
+ghost use Prim.Native.Nat.{ℕ, _+_, _*_, _≤_, _<_};
+ghost use lib.ListN.{length, getD, drop};
+ghost use Rattle.counting.specs.Count.{occurs};
 ghost use Rattle.rules.specs.Handed.{given, left};
-ghost use Rattle.rules.specs.Sizes.{packetsMost, hopsMost};
+ghost use Rattle.rules.specs.Sizes.{packetsMost, hopsMost, startMost};
 ghost use Rattle.rules.specs.Network.{pathsFrom};
 ghost use Rattle.rules.specs.Outcome.{is};
 ghost use Rattle.rules.specs.Travel.{oneStep};
-ghost use Rattle.rules.specs.Claims.{place, placedBy, takes, taken as takenBy};
-ghost use Rattle.rules.specs.Check.{holder as holderOf, clashAfter};
+ghost use Rattle.rules.specs.Claims.{place, takes};
+ghost use Rattle.rules.specs.Check.{holder as holderOf, clashWith, clashAfter};
 ghost use Rattle.rules.specs.Lead.{entryAt, leadOf};
 ghost use Rattle.rules.specs.Answers.{planned, checked, led};
 ghost use Rattle.job.specs.Lists.{jobIn};
-ghost use Rattle.planner.specs.Told.{enteredOf, checkedOf, clearOr, ledOf, PlannedAs, Near};
-ghost use Rattle.planner.specs.PacketsInLists.{SimplePaths, pathClaims, beginFrom, pathAt, packetEnters, before, greedyStarts, clashAt};
-ghost use Rattle.planner.specs.Entries.{EntriesBefore};
+ghost use Rattle.planner.specs.Told.{enteredOf, heldBy, checkedOf, clearOr, ledOf, PlannedAs, Near};
+ghost use Rattle.planner.specs.PacketsInLists.{SimplePaths, InTime, OnPath, pathClaims, beginFrom, pathAt, packetEnters, packets, before, greedyStarts};
+ghost use Rattle.planner.specs.Entries.{widest, OnLinks, Enterable, EntriesBefore};
+ghost use Rattle.planner.specs.Again.{FirstAgain};
+ghost use Rattle.planner.specs.EntriesAdded.{allSteps, EntriesAdded};
+ghost use Rattle.marks.specs.Marks.{unmarked};
 
 mod entries;
+pub mod from_text;
+mod repeats;
 
-use entries::count;
 use entries::enter;
-use entries::open;
+use entries::make_room;
 use entries::search;
 use job::Hop;
 use job::Job;
@@ -31,9 +34,13 @@ use job::Refusal;
 use job::Step;
 use job::Verdict;
 use job::wide;
+use repeats::first_again;
 
 // Words for the starts that are marked: no start lies further than there are hops.
 const WORDS: usize = Job::HOPS / 64 + 1;
+
+// Words for the steps that are marked: an entry step has 16 bits.
+const STEP_WORDS: usize = 65535 / 64 + 1;
 
 // Where packet k's path begins in the hops.
 fn begin(stops: &[u16], k: usize) -> usize
@@ -80,21 +87,6 @@ fn packet_enters(
     enters(path(stops, hops, j), starts[j], link, step)
 }
 
-// Whether a packet listed before packet k enters the link in the step.
-fn taken(stops: &[u16], hops: &[u16], starts: &[u16], k: usize, link: u16, step: Step) -> bool
-    requires { ⌜ SimplePaths (now stops) (now hops) × (k ≤ length (now stops)) × (k ≤ length (now starts)) ⌝ }
-    ensures { λ r. ⌜ r ≡ takenBy (before (given stops) (given hops) (given starts) k) link (step .0) ⌝ }
-{
-    let mut j = 0;
-    while j < k {
-        if packet_enters(stops, hops, starts, j, link, step) {
-            return true;
-        }
-        j += 1;
-    }
-    false
-}
-
 // Starts one packet after the other, over the first places: each searches among the entries of those before it and then adds its own.
 fn start_each(
     stops: &[u16],
@@ -128,7 +120,7 @@ fn start_each(
 }
 
 // Writes the greedy starts, packet by packet, over the first places.
-fn fill(stops: &[u16], hops: &[u16], starts: &mut [u16])
+pub(crate) fn fill(stops: &[u16], hops: &[u16], starts: &mut [u16])
     requires { ⌜ SimplePaths (now stops) (now hops) × (length (now stops) ≤ length (now starts)) ⌝ }
     ensures { λ _. ⌜ left starts ≡ greedyStarts (given stops) (given hops) ++ drop (length (given stops)) (given starts) ⌝ }
 {
@@ -136,8 +128,7 @@ fn fill(stops: &[u16], hops: &[u16], starts: &mut [u16])
     let mut nexts = [0u16; Job::LINKS];
     let mut steps = [0u16; Job::HOPS];
     let mut words = [0u64; WORDS];
-    count(hops, &mut nexts[..]);
-    open(hops.len(), &mut firsts[..], &mut nexts[..]);
+    make_room(hops, &mut firsts[..], &mut nexts[..]);
     start_each(
         stops,
         hops,
@@ -200,61 +191,133 @@ pub enum Checked {
     Refused(Refusal),
 }
 
-// The lowest packet listed before packet k that enters the link in the step, where one does.
-fn holder(stops: &[u16], hops: &[u16], starts: &[u16], k: usize, link: u16, step: Step) -> u16
-    requires { ⌜ SimplePaths (now stops) (now hops) × (k ≤ length (now stops)) × (k ≤ length (now starts)) × (k ≤ packetsMost)
-        × (takenBy (before (now stops) (now hops) (now starts) k) link (step .0) ≡ true) ⌝ }
-    ensures { λ r. ⌜ holderOf 0 (before (given stops) (given hops) (given starts) k) link (step .0) ≡ some r ⌝ }
+// Who has a link in a step.
+enum Held {
+    By(u16),
+    Nobody,
+}
+
+// The lowest packet listed before packet k that enters the link in the step, if one does.
+fn holder(stops: &[u16], hops: &[u16], starts: &[u16], k: usize, link: u16, step: Step) -> Held
+    requires { ⌜ SimplePaths (now stops) (now hops) × (k ≤ length (now stops)) × (k ≤ length (now starts)) × (k ≤ packetsMost) ⌝ }
+    ensures { λ r. ⌜ heldBy r ≡ holderOf 0 (before (given stops) (given hops) (given starts) k) link (step .0) ⌝ }
 {
     let mut j = 0;
     while j < k {
         if packet_enters(stops, hops, starts, j, link, step) {
-            return j as u16;
+            return Held::By(j as u16);
         }
         j += 1;
     }
-    0
+    Held::Nobody
 }
 
-// The first conflicting hop of packet k.
-fn clash_of(stops: &[u16], hops: &[u16], starts: &[u16], k: usize) -> Checked
-    requires { ⌜ SimplePaths (now stops) (now hops) × (k < length (now stops)) × (length (now starts) ≡ length (now stops))
-        × (length (now stops) ≤ packetsMost) ⌝ }
-    ensures { λ r. ⌜ r ≡ clearOr (clashAt (given stops) (given hops) (given starts) k) ⌝ }
+// The clash of packet k on the link in the step, where one listed before it has it.
+fn clash_at(stops: &[u16], hops: &[u16], starts: &[u16], k: usize, link: u16, step: Step) -> Checked
+    requires { ⌜ SimplePaths (now stops) (now hops) × (k ≤ length (now stops)) × (k ≤ length (now starts)) × (k ≤ packetsMost) ⌝ }
+    ensures { λ r. ⌜ r ≡ clearOr (clashWith k link (step .0) (holderOf 0 (before (given stops) (given hops) (given starts) k) link (step .0))) ⌝ }
 {
-    let links = path(stops, hops, k);
-    let mut hop = 0;
-    while hop < links.len() {
-        let link = links[hop];
-        let step = Step::of(starts[k], Hop(hop as u16));
-        if taken(stops, hops, starts, k, link, step) {
-            let earlier = holder(stops, hops, starts, k, link, step);
-            return Checked::Clash {
-                later: k as u16,
-                earlier: earlier,
-                link: link,
-                step: step,
-            };
-        }
-        hop += 1;
+    let held = holder(stops, hops, starts, k, link, step);
+    let Held::By(earlier) = held else {
+        return Checked::Clear;
+    };
+    Checked::Clash {
+        later: k as u16,
+        earlier: earlier,
+        link: link,
+        step: step,
     }
-    Checked::Clear
+}
+
+// The packet whose path has the hop.
+fn packet_of(stops: &[u16], hop: usize) -> usize
+    requires { ⌜ hop < beginFrom 0 (now stops) (length (now stops)) ⌝ }
+    ensures { λ r. ⌜ OnPath (given stops) hop r ⌝ }
+{
+    let mut k = 0;
+    while wide(stops[k]) <= hop {
+        k += 1;
+    }
+    k
+}
+
+// Enters every packet at its start, one after the other.
+fn enter_each(stops: &[u16], hops: &[u16], starts: &[u16], nexts: &mut [u16], steps: &mut [u16])
+    requires { ⌜ SimplePaths (now stops) (now hops) × (length (now starts) ≡ length (now stops)) × InTime (now starts)
+        × Enterable (now hops) startMost (now nexts) (length (now steps)) ⌝ }
+    ensures { λ _. ⌜ ((link : ℕ) → getD (left nexts) link 0 ≡ getD (given nexts) link 0 + occurs link (given hops)) ⌝ }
+    ensures entries { λ _. ⌜ EntriesAdded (given hops) (allSteps (packets (given stops) (given hops) (given starts)))
+        (given nexts) (given steps) (left nexts) (left steps) ⌝ }
+{
+    let mut packet = 0;
+    while packet < stops.len() {
+        enter(
+            path(stops, hops, packet),
+            starts[packet],
+            &mut nexts[..],
+            &mut steps[..],
+        );
+        packet += 1;
+    }
+}
+
+// The first hop, in list order, that enters its link in a step in which a hop before it does, by way of the entries in the rooms that
+// are lent; the number of hops, where none does.
+fn conflict_among(
+    links: usize,
+    stops: &[u16],
+    hops: &[u16],
+    starts: &[u16],
+    firsts: &mut [u16],
+    nexts: &mut [u16],
+    steps: &mut [u16],
+    words: &mut [u64],
+) -> usize
+    requires { ⌜ SimplePaths (now stops) (now hops) × (length (now starts) ≡ length (now stops)) × InTime (now starts)
+        × EntriesBefore (now stops) (now hops) (now starts) 0 (now firsts) (now nexts) (now steps)
+        × OnLinks links (now hops) × (widest < 64 * length (now words)) × (now words ≡ unmarked (length (now words))) ⌝ }
+    ensures { λ r. ⌜ FirstAgain (given hops) (allSteps (packets (given stops) (given hops) (given starts))) r ⌝ }
+{
+    enter_each(stops, hops, starts, &mut nexts[..], &mut steps[..]);
+    first_again(links, hops, firsts, nexts, &steps[..], words)
+}
+
+// The same, with rooms of its own.
+fn first_conflict(links: usize, stops: &[u16], hops: &[u16], starts: &[u16]) -> usize
+    requires { ⌜ SimplePaths (now stops) (now hops) × (length (now starts) ≡ length (now stops)) × InTime (now starts) × OnLinks links (now hops) ⌝ }
+    ensures { λ r. ⌜ FirstAgain (given hops) (allSteps (packets (given stops) (given hops) (given starts))) r ⌝ }
+{
+    let mut firsts = [0u16; Job::LINKS];
+    let mut nexts = [0u16; Job::LINKS];
+    let mut steps = [0u16; Job::HOPS];
+    let mut words = [0u64; STEP_WORDS];
+    make_room(hops, &mut firsts[..], &mut nexts[..]);
+    conflict_among(
+        links,
+        stops,
+        hops,
+        starts,
+        &mut firsts[..],
+        &mut nexts[..],
+        &mut steps[..],
+        &mut words[..],
+    )
 }
 
 // The clash of the lowest packet that conflicts with one listed before it.
-fn first_clash(stops: &[u16], hops: &[u16], starts: &[u16]) -> Checked
-    requires { ⌜ SimplePaths (now stops) (now hops) × (length (now starts) ≡ length (now stops)) × (length (now stops) ≤ packetsMost) ⌝ }
-    ensures { λ r. ⌜ checkedOf r ≡ is (clashAfter [] (placedBy pathClaims (given starts) (pathsFrom 0 (given stops) (given hops)))) ⌝ }
+fn first_clash(links: usize, stops: &[u16], hops: &[u16], starts: &[u16]) -> Checked
+    requires { ⌜ SimplePaths (now stops) (now hops) × (length (now starts) ≡ length (now stops)) × (length (now stops) ≤ packetsMost)
+        × InTime (now starts) × OnLinks links (now hops) ⌝ }
+    ensures { λ r. ⌜ checkedOf r ≡ is (clashAfter [] (packets (given stops) (given hops) (given starts))) ⌝ }
 {
-    let mut later = 0;
-    while later < stops.len() {
-        let found = clash_of(stops, hops, starts, later);
-        let Checked::Clear = found else {
-            return found;
-        };
-        later += 1;
+    let hop = first_conflict(links, stops, hops, starts);
+    if hop == hops.len() {
+        return Checked::Clear;
     }
-    Checked::Clear
+    let later = packet_of(stops, hop);
+    let from = begin(stops, later);
+    let step = Step::of(starts[later], Hop((hop - from) as u16));
+    clash_at(stops, hops, starts, later, hops[hop], step)
 }
 
 // The greedy starts of a job, in list order, over the first places of the lent list.
@@ -296,7 +359,7 @@ pub fn check(
     if let Verdict::Refused(refusal) = verdict {
         return Checked::Refused(refusal);
     }
-    first_clash(stops, hops, starts)
+    first_clash(origins.len(), stops, hops, starts)
 }
 
 pub enum Led {

@@ -229,7 +229,7 @@ pub extern "C" fn zhevgulor_plan_text(
 pub extern "C" fn zhevgulor_plan(job: &[u8], room: &mut [u8]) -> Answer
     ensures { λ r. ⌜ PlanPromise (given job) (given room) r (left room) ⌝ }
 {
-    let text = answer::answer(job, room);
+    let text = plan_text::from_text::answer(job, room);
     told(text)
 }
 

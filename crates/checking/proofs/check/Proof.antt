@@ -1,7 +1,7 @@
 -- `checking::check` meets its contract: the job's lists, then the plan.
 use borrow.Author.Needs.{needs}
-use Rattle.answer.proofs.Reading.{read-holds, roomy-arrays, counted, places}
-use Rattle.checking.proofs.BothTexts.{job-refused-told, texts-told}
+use Rattle.job_text.proofs.Accepts.{read-holds, counted, roomy-arrays}
+use Rattle.checking.proofs.BothTexts.{job-refused-told, texts-told, places}
 use Rattle.checking.proofs.check.Statement.{statement}
 use Rattle.checking.proofs.check.Tie as tie
 
@@ -9,31 +9,31 @@ part-checked-plan-end : tie.Need-part-checked-plan-end
 part-checked-plan-end c =
     let read = c .before .before .before .before in
     counted (c .before .before .wide .ensures)
-    (read-holds _ roomy-arrays (read .reading2 .given .1) (read .before .before .before .before .before .before .before .read .ensures) .origins)
+    (read-holds _ (read .reading2 .given .1) (read .before .before .before .before .before .before .before .read .ensures) .origins)
 
 part-checked-plan-end-2 : tie.Need-part-checked-plan-end-2
 part-checked-plan-end-2 c =
     let read = c .before .before .before .before .before .before in
     counted (c .before .before .before .before .wide .ensures)
-    (read-holds _ roomy-arrays (read .reading2 .given .1) (read .before .before .before .before .before .before .before .read .ensures) .ends)
+    (read-holds _ (read .reading2 .given .1) (read .before .before .before .before .before .before .before .read .ensures) .ends)
 
 part-checked-plan-end-3 : tie.Need-part-checked-plan-end-3
 part-checked-plan-end-3 c =
     let read = c .before .before .before .before .before .before .before .before in
     counted (c .before .before .before .before .before .wide2 .ensures)
-    (read-holds _ roomy-arrays (read .reading2 .given .1) (read .before .before .before .before .before .before .before .read .ensures) .sources)
+    (read-holds _ (read .reading2 .given .1) (read .before .before .before .before .before .before .before .read .ensures) .sources)
 
 part-checked-plan-end-4 : tie.Need-part-checked-plan-end-4
 part-checked-plan-end-4 c =
     let read = c .before .before .before .before .before .before .before .before .before .before in
     counted (c .before .before .before .before .before .before .before .wide2 .ensures)
-    (read-holds _ roomy-arrays (read .reading2 .given .1) (read .before .before .before .before .before .before .before .read .ensures) .stops)
+    (read-holds _ (read .reading2 .given .1) (read .before .before .before .before .before .before .before .read .ensures) .stops)
 
 part-checked-plan-end-5 : tie.Need-part-checked-plan-end-5
 part-checked-plan-end-5 c =
     let read = c .before .before .before .before .before .before .before .before .before .before .before .before .before in
     counted (c .before .wide3 .ensures)
-    (read-holds _ roomy-arrays (read .reading2 .given .1) (read .before .before .before .before .before .before .before .read .ensures) .hops)
+    (read-holds _ (read .reading2 .given .1) (read .before .before .before .before .before .before .before .read .ensures) .hops)
 
 returns : tie.Need-returns
 returns c = job-refused-told _ _ roomy-arrays (c .before .before .before .before .before .before .before .before .read .ensures) (c .before .reading .given .1)

@@ -4,13 +4,13 @@ use native.Mathlib.Omega.{arith}
 use borrow.Author.Needs.{needs}
 use denote.Ref.{now}
 use lib.ListN.{length, getD}
-use Rattle.planner.proofs.EnteringLinks.{EnteredSoFar, entered-start, entered-turn, entered-done, nexts-done, next-within}
+use Rattle.planner.proofs.EnteringLinks.{EnteredToHop, next-within, path-start, path-turn, path-added, path-counted}
 use Rattle.planner.proofs.entries.enter.Statement.{statement}
 use Rattle.planner.proofs.entries.enter.Tie as tie
 
 abbrev Inv-loop : tie.InvT-loop
 Inv-loop path start nexts₀ steps₀ hop₀ offset₀ nexts steps hop offset =
-    (hop ≤ length path) × (offset ≤ hop) × EnteredSoFar path nexts₀ steps₀ nexts steps start hop offset
+    (hop ≤ length path) × (offset ≤ hop) × EnteredToHop path nexts₀ steps₀ nexts steps start hop offset
 
 abbrev μ-loop : tie.MeasureT-loop
 μ-loop path start nexts₀ steps₀ hop₀ offset₀ nexts steps hop offset = length path - hop
@@ -20,7 +20,7 @@ lent l = l .before .before .before .before .before
 
 -- the link that is read is one of those that are lent
 on-link : (l : tie.In-loop Inv-loop μ-loop) → getD (now (lent l .args .path)) (l .before .loop .hop) 0 < length (l .before .loop .nexts)
-on-link l = rw (l .before .loop .inv .2 .nexts-length) (lent l .pre .0 (l .before .loop .hop) (l .loop-test .taken))
+on-link l = rw (l .before .loop .inv .2 .so-far .nexts-length) (lent l .pre .0 (l .before .loop .hop) (l .loop-test .taken))
 
 -- and there is a place for its next entry
 at-step : (w : tie.After-wide2 Inv-loop μ-loop) → w .wide2 .result < length (w .before .before .before .before .before .before .before .loop .steps)
@@ -29,7 +29,7 @@ at-step w =
     rw (w .wide2 .ensures, w .before .before .before .before .wide .ensures) (next-within (l .before .loop .inv .2) (l .loop-test .taken) (lent l .pre .3 _))
 
 loop-holds : tie.Need-loop-holds Inv-loop μ-loop
-loop-holds c = (omega arith, omega arith, entered-start)
+loop-holds c = (omega arith, omega arith, path-start)
 
 mul-at : tie.Need-mul-at Inv-loop μ-loop
 mul-at c = search (needs, on-link (c .before .before))
@@ -58,13 +58,13 @@ slice-write-nexts c = search (needs, on-link (c .before .before .before .before 
 loop-again : tie.Need-loop-again Inv-loop μ-loop
 loop-again c =
     let l = c .before .before .before .before .before .before .before .before in
-    let entered = entered-turn (l .before .loop .inv .2) (l .loop-test .taken) (on-link l) in
+    let entered = path-turn (l .before .loop .inv .2) (l .loop-test .taken) (on-link l) in
     let said = c .before .before .wide2 .ensures in
     let step = c .before .before .before .before .of .ensures in
     (omega arith, omega arith, rw (said, step, c .before .wide3 .ensures, c .before .before .before .before .before .before .wide .ensures, c .offset-after .ensures) entered)
 
 returns : tie.Need-returns Inv-loop μ-loop
-returns c = (nexts-done (c .before .loop .inv .2) (omega arith), entered-done (c .before .loop .inv .2) (omega arith))
+returns c = (path-counted (c .before .loop .inv .2) (omega arith), path-added (c .before .loop .inv .2) (omega arith))
 
 pub enter-spec : {M : Type 1} → statement M
 enter-spec =
