@@ -1,10 +1,10 @@
-/* bench.c: the planner's C function from text to text against fast.c, on the same jobs, in one run.
+/* bench.c: the planner's C functions against fast.c, on the same jobs, in one run: from text to text, and the check of the plan's starts.
  *
- * Each job is planned by both in turn, several times; the median time of each is taken, and their ratio is what is shown. Neither
- * side's buffers are cleared between two plans: fast.c overwrites its own as it reads, the planner clears its own in every call.
- * The planner's time is told by parts:
- *     read     zhevgulor_plan of the job with a last line of bad form, which is refused when everything above it was read
- *     tables   zhevgulor_tables, twice: zhevgulor_plan looks at the tables before it plans and before it writes
+ * Each job is planned and checked by both in turn, several times; the median time of each is taken, and their ratio is what is shown.
+ * Neither side's buffers are cleared between two calls: fast.c overwrites its own, the planner clears its own in every call.
+ * The planner's time from text to text is told by parts:
+ *     read     zhevgulor_plan of the job with a last line of bad form, which is refused when everything above it was read; the tables are
+ *              looked at there, line by line, and not again
  *     search   zhevgulor_starts without its tables
  *     write    zhevgulor_plan_text without its tables */
 #define _POSIX_C_SOURCE 200809L
@@ -251,6 +251,12 @@ static uint8_t plan[ZHEVGULOR_PLAN_BYTES], fast[ZHEVGULOR_PLAN_BYTES];
 
 #define LISTS nodes, origins, link_count, ends, link_count, sources, packet_count, stops, packet_count, hops, hop_count
 
+static fast_lists lists(void)
+{
+    return (fast_lists){ nodes, origins, ends, sources, stops, hops, link_count, link_count, packet_count, packet_count, hop_count };
+}
+
+static uint32_t clash[ZHEVGULOR_CLASH];
 static uint8_t spoilt[sizeof text];
 
 static void run_plan(void) { zhevgulor_plan(text, bytes, plan, sizeof plan); }
@@ -258,14 +264,20 @@ static void run_read(void) { zhevgulor_plan(spoilt, bytes + 2, plan, sizeof plan
 static void run_tables(void) { zhevgulor_tables(LISTS); }
 static void run_starts(void) { zhevgulor_starts(LISTS, starts, packet_count); }
 static void run_text(void) { zhevgulor_plan_text(LISTS, starts, packet_count, plan, sizeof plan); }
+static void run_check(void) { zhevgulor_check(LISTS, starts, packet_count, clash, ZHEVGULOR_CLASH); }
 static void run_fast(void) { fast_plan(text, bytes, fast, sizeof fast); }
 static void run_fast_read(void) { fast_read(text, bytes); }
 static void run_fast_search(void) { fast_read(text, bytes), fast_search(); }
 static void run_fast_write(void) { fast_write(fast, sizeof fast); }
+static void run_fast_check(void)
+{
+    fast_lists job = lists();
+    fast_check(&job, starts, packet_count, clash, ZHEVGULOR_CLASH);
+}
 
-enum { PLAN, READ, TABLES, STARTS, TEXT, FAST, FAST_READ, FAST_SEARCH, FAST_WRITE, TIMED };
-static void (*const timed[TIMED])(void) = { run_plan, run_read, run_tables, run_starts, run_text, run_fast, run_fast_read,
-                                            run_fast_search, run_fast_write };
+enum { PLAN, READ, TABLES, STARTS, TEXT, CHECK, FAST, FAST_READ, FAST_SEARCH, FAST_WRITE, FAST_CHECK, TIMED };
+static void (*const timed[TIMED])(void) = { run_plan, run_read, run_tables, run_starts, run_text, run_check, run_fast, run_fast_read,
+                                            run_fast_search, run_fast_write, run_fast_check };
 
 static double now(void)
 {
@@ -280,18 +292,18 @@ static int by_size(const void *a, const void *b)
     return x < y ? -1 : x > y;
 }
 
-/* The parts: those of the planner, and those of fast.c, which looks at no tables apart from reading. */
-enum { READ_PART, TABLES_PART, SEARCH_PART, WRITE_PART, PARTS };
-static const char *const part_name[PARTS] = { "read", "tables", "search", "write" };
+/* The parts: those of the planner, and those of fast.c. */
+enum { READ_PART, SEARCH_PART, WRITE_PART, PARTS };
+static const char *const part_name[PARTS] = { "read", "search", "write" };
 
 typedef struct {
-    double plan, fast, part[PARTS], fast_part[PARTS];
+    double plan, fast, part[PARTS], fast_part[PARTS], check, fast_check;
 } times;
 
 static times parts_of(const double *t)
 {
-    return (times){ t[PLAN], t[FAST], { t[READ], 2 * t[TABLES], t[STARTS] - t[TABLES], t[TEXT] - t[TABLES] },
-                    { t[FAST_READ], 0, t[FAST_SEARCH] - t[FAST_READ], t[FAST_WRITE] } };
+    return (times){ t[PLAN], t[FAST], { t[READ], t[STARTS] - t[TABLES], t[TEXT] - t[TABLES] },
+                    { t[FAST_READ], t[FAST_SEARCH] - t[FAST_READ], t[FAST_WRITE] }, t[CHECK], t[FAST_CHECK] };
 }
 
 /* Microseconds of each, as medians of rounds. In a round each is run in turn, and a run repeats a call until it has taken two
@@ -326,6 +338,45 @@ static times measure(void)
     return median;
 }
 
+/* Both must say the same of the plan's starts, and of starts that were changed here and there. */
+static void agree_on_starts(const char *name)
+{
+    uint16_t kept[ZHEVGULOR_PACKETS];
+    fast_lists job = lists();
+    memcpy(kept, starts, sizeof kept);
+    for (int turn = 0; turn < 200; turn++) {
+        uint32_t one[ZHEVGULOR_CLASH] = { 0 }, other[ZHEVGULOR_CLASH] = { 0 };
+        zhevgulor_answer a = zhevgulor_check(LISTS, starts, packet_count, one, ZHEVGULOR_CLASH);
+        zhevgulor_answer b = fast_check(&job, starts, packet_count, other, ZHEVGULOR_CLASH);
+        if (a.refusal != b.refusal || a.value != b.value || memcmp(one, other, sizeof one) != 0 || (turn == 0 && (a.refusal || a.value))) {
+            fprintf(stderr, "bench: the two checks of '%s' differ\n", name);
+            exit(1);
+        }
+        memcpy(starts, kept, sizeof kept);
+        for (int change = turn % 3; packet_count > 0 && change >= 0; change--)
+            starts[random_below((unsigned)packet_count)] = (uint16_t)random_below(turn % 2 ? 33000 : 100);
+    }
+    memcpy(starts, kept, sizeof kept);
+}
+
+/* Both must answer the same for the job's text, for all of it but its last byte, and for texts in which one byte is another. */
+static void agree_on_texts(const char *name)
+{
+    static const char other[] = "0123456789\t\nNLPX";
+    for (int turn = 0; turn < 300; turn++) {
+        size_t at = random_below((unsigned)bytes), length = bytes - (turn == 1);
+        uint8_t kept = text[at];
+        if (turn > 1)
+            text[at] = (uint8_t)other[random_below(sizeof other - 1)];
+        zhevgulor_answer a = zhevgulor_plan(text, length, plan, sizeof plan), b = fast_plan(text, length, fast, sizeof fast);
+        text[at] = kept;
+        if (a.refusal != b.refusal || a.value != b.value || (a.refusal == 0 && memcmp(plan, fast, a.value) != 0)) {
+            fprintf(stderr, "bench: the two answers to a text of '%s' differ\n", name);
+            exit(1);
+        }
+    }
+}
+
 /* Both must print the same plan. */
 static void agree(const char *name)
 {
@@ -334,7 +385,10 @@ static void agree(const char *name)
         fprintf(stderr, "bench: the two plans of '%s' differ\n", name);
         exit(1);
     }
+    agree_on_texts(name);
     zhevgulor_starts(LISTS, starts, packet_count);
+    agree_on_starts(name);
+    fast_plan(text, bytes, fast, sizeof fast);
     memcpy(spoilt, text, bytes);
     memcpy(spoilt + bytes, "X\n", 2);
     if (zhevgulor_plan(spoilt, bytes + 2, plan, sizeof plan).refusal != 2)
@@ -347,27 +401,48 @@ static double planner_sum[PARTS], fast_sum[PARTS];
 
 static const char *only; /* the one kind of job that is asked for, or null */
 
-/* The search against that of fast.c, by itself: where there is enough of it, and from few packets on one link to many. It grows no
- * more than that of fast.c if it takes no more times as long with many packets than with few. */
-enum { MANY_MEETINGS = 1000, FEW_PACKETS = 128, MANY_PACKETS = 1024 };
-static double greatest;
-static char greatest_job[100];
-static double few, many; /* on one link */
+/* The greatest ratio of those that are told, and the job that has it. */
+typedef struct {
+    double ratio;
+    char job[100];
+} greatest;
 
-static void compare_search(const char *name, const char *shown, int packets, double planner, double fast)
+static void tell(greatest *most, const char *shown, double ratio)
 {
-    if (fast_meetings() > MANY_MEETINGS && planner / fast > greatest) {
-        greatest = planner / fast;
-        snprintf(greatest_job, sizeof greatest_job, "%s", shown);
+    if (ratio > most->ratio) {
+        most->ratio = ratio;
+        snprintf(most->job, sizeof most->job, "%s", shown);
     }
-    if (strcmp(name, "one link") == 0 && (packets == FEW_PACKETS || packets == MANY_PACKETS))
-        *(packets == FEW_PACKETS ? &few : &many) = planner / fast;
 }
 
-static void tell_search(void)
+/* From text to text on all jobs and on those that take fast.c long enough to be told apart from what comes with every call; the search
+ * by itself where there is enough of it, and from few packets on one link to many: it grows no more than that of fast.c if it takes no
+ * more times as long with many packets than with few; and the check. */
+enum { LONG = 100, MANY_MEETINGS = 1000, FEW_PACKETS = 128, MANY_PACKETS = 1024 };
+static greatest whole, whole_long, searching, checking;
+static double few, many; /* on one link */
+
+static void compare(const char *name, const char *shown, int packets, const times *t)
 {
-    if (greatest > 0)
-        printf("\nSearch to search, jobs of over %d meetings: at most %.2f times fast.c (%s).\n", MANY_MEETINGS, greatest, greatest_job);
+    double search = t->part[SEARCH_PART] / t->fast_part[SEARCH_PART];
+    tell(&whole, shown, t->plan / t->fast);
+    tell(&checking, shown, t->check / t->fast_check);
+    if (t->fast > LONG)
+        tell(&whole_long, shown, t->plan / t->fast);
+    if (fast_meetings() > MANY_MEETINGS)
+        tell(&searching, shown, search);
+    if (strcmp(name, "one link") == 0 && (packets == FEW_PACKETS || packets == MANY_PACKETS))
+        *(packets == FEW_PACKETS ? &few : &many) = search;
+}
+
+static void tell_greatest(void)
+{
+    printf("\nText to text: at most %.2f times fast.c (%s)", whole.ratio, whole.job);
+    if (whole_long.ratio > 0)
+        printf("; on jobs of over %d microseconds at most %.2f times (%s)", LONG, whole_long.ratio, whole_long.job);
+    printf(".\nCheck of a clear plan: at most %.2f times fast.c (%s).\n", checking.ratio, checking.job);
+    if (searching.ratio > 0)
+        printf("Search to search, jobs of over %d meetings: at most %.2f times fast.c (%s).\n", MANY_MEETINGS, searching.ratio, searching.job);
     if (few > 0 && many > 0)
         printf("Search to search on one link: %.2f times fast.c with %d packets, %.2f times with %d.\n", few, FEW_PACKETS, many, MANY_PACKETS);
 }
@@ -386,17 +461,18 @@ static void line(const char *name, const char *shown, int packets)
         planner_sum[p] += t.part[p];
         fast_sum[p] += t.fast_part[p];
     }
-    printf(" %.0f | %.0f | %.0f |\n", t.fast_part[READ_PART], t.fast_part[SEARCH_PART], t.fast_part[WRITE_PART]);
+    printf(" %.0f | %.0f | %.0f | %.0f | %.0f | %.1f |\n", t.fast_part[READ_PART], t.fast_part[SEARCH_PART], t.fast_part[WRITE_PART], t.check,
+           t.fast_check, t.check / t.fast_check);
     fflush(stdout);
-    compare_search(name, shown, packets, t.part[SEARCH_PART], t.fast_part[SEARCH_PART]);
+    compare(name, shown, packets, &t);
 }
 
-/* Reading and looking at tables are one part of fast.c, so they are held against it together. */
+/* The part that takes the most times of fast.c's. */
 static void furthest(void)
 {
-    double ratio[] = { (planner_sum[READ_PART] + planner_sum[TABLES_PART]) / fast_sum[READ_PART],
-                       planner_sum[SEARCH_PART] / fast_sum[SEARCH_PART], planner_sum[WRITE_PART] / fast_sum[WRITE_PART] };
-    static const char *const name[] = { "reading with the tables", "searching", "writing" };
+    double ratio[] = { planner_sum[READ_PART] / fast_sum[READ_PART], planner_sum[SEARCH_PART] / fast_sum[SEARCH_PART],
+                       planner_sum[WRITE_PART] / fast_sum[WRITE_PART] };
+    static const char *const name[] = { "reading", "searching", "writing" };
     int most = 0;
     printf("\nOver all jobs together, times of fast.c:");
     for (int i = 0; i < 3; i++) {
@@ -415,7 +491,7 @@ int main(int words, char **word)
     printf("| job | bytes | meetings | planner | fast.c | ratio |");
     for (int p = 0; p < PARTS; p++)
         printf(" %s |", part_name[p]);
-    printf(" fast read | fast search | fast write |\n|---|---|---|---|---|---|---|---|---|---|---|---|---|\n");
+    printf(" fast read | fast search | fast write | check | fast check | ratio |\n|---|---|---|---|---|---|---|---|---|---|---|---|---|---|---|\n");
     line("mesh", "mesh 12 × 12, 1,024 packets of 10 hops", 1024);
     line("one link", "1,024 packets on one link", 1024);
     line("one path", "1,024 packets on one path of 16 links", 1024);
@@ -433,7 +509,7 @@ int main(int words, char **word)
         sprintf(shown, "growth: one link, %d packets", packets[i]);
         line("one link", shown, packets[i]);
     }
-    tell_search();
+    tell_greatest();
     if (!only)
         furthest();
     return 0;

@@ -1,163 +1,193 @@
-/* fast.c: what a C programmer would write who wants the plan as fast as possible: the yardstick of the benchmark.
+/* fast.c: what a C programmer would write who wants a plan as the planner makes it, or the check of one, as fast as possible: the
+ * yardstick of the benchmark.
  *
- * Each link has a chain of the hops that enter it, with the step of each. A packet goes along its path, and every hop in the chain of
- * a link rules out one start, which is a bit; the first bit that is not set is its start. The work for a packet is the number of its
- * meetings, and no planner that looks at each meeting can do with less. Everything is read once, nothing is looked up twice, and
- * nothing is kept on the stack. */
+ * The steps in which a link is entered stand side by side in memory. A packet goes along its path, and every step on one of its links
+ * rules out one start, which is a bit; the first bit that is not set is its start. So the work for a packet is the number of its
+ * meetings, each of which is looked at once; docs/PERFORMANCE.md says what a planner could gain that need not do so. Everything is read
+ * once, nothing is looked up twice, a word of bits is kept in hand for as long as the steps fall in it, bits are cleared up to the
+ * latest step alone, what was seen is stamped and never cleared, and nothing is kept on the stack. */
 #include "fast.h"
 
 #include <string.h>
 
-enum { NODES = ZHEVGULOR_NODES, LINKS = ZHEVGULOR_LINKS, PACKETS = ZHEVGULOR_PACKETS, HOPS = ZHEVGULOR_HOPS, NONE = 0xFFFF };
+enum { NODES = ZHEVGULOR_NODES, LINKS = ZHEVGULOR_LINKS, PACKETS = ZHEVGULOR_PACKETS, PATH = ZHEVGULOR_PATH_HOPS, HOPS = ZHEVGULOR_HOPS };
 
-static unsigned nodes, links, packets, hops;
+static unsigned nodes, links, packets;
 static uint16_t from[LINKS], to[LINKS];
-static uint16_t stop[PACKETS + 1]; /* stop[k] is where the path of packet k begins */
-static uint16_t path[HOPS];
+static uint16_t stop[PACKETS + 1];     /* stop[k] is where the path of packet k begins */
+static uint16_t path[HOPS + PATH + 2]; /* with room for a path that turns out to be too much */
 
-static uint16_t first[LINKS];      /* the hop that entered the link last, or NONE */
-static uint16_t next[HOPS];        /* the one that did so before it */
-static uint16_t entered[HOPS];     /* the step */
-static uint16_t load[LINKS];
+static uint16_t load[LINKS];           /* how many packets take the link */
+static uint16_t first[LINKS], next[LINKS], entered[HOPS]; /* the steps on a link: from entered[first] to entered[next] */
 static uint16_t start[PACKETS];
-static uint64_t ruled_out[(HOPS + ZHEVGULOR_PATH_HOPS) / 64 + 3];
 static uint32_t visited[NODES], visit; /* the visit in which a node was seen last */
 static size_t meetings;
 
 /* ---- Reading ---- */
 
-static const uint8_t *at, *end;
-
-/* One number, up to the tab or line feed behind it; 0 if there is none. */
-static int number(unsigned *value)
+/* The number at a place, and the place behind it, where a tab or a line feed stands; null if that is not so. Below every place there is
+ * a byte that is no digit, so that the end is not looked for. */
+static inline const uint8_t *number(const uint8_t *at, unsigned *value)
 {
-    if (at == end || *at < '0' || *at > '9')
-        return 0;
-    unsigned sum = *at++ - '0';
+    unsigned sum = *at - (unsigned)'0', digit;
+    if (sum > 9)
+        return NULL;
     if (sum == 0)
-        return at < end && (*at == '\t' || *at == '\n') ? (*value = 0, 1) : 0;
-    for (; at < end && *at >= '0' && *at <= '9'; at++)
-        if ((sum = 10 * sum + *at - '0') > 65535)
-            return 0;
-    *value = sum;
-    return at < end && (*at == '\t' || *at == '\n');
-}
-
-static int tab(void) { return at < end && *at++ == '\t'; }
-static int feed(void) { return at < end && *at++ == '\n'; }
-
-static int read_link(void)
-{
-    unsigned a, b;
-    if (packets > 0 || !tab() || !number(&a) || !tab() || !number(&b) || !feed())
-        return 2;
-    if (links == LINKS)
-        return 3;
-    if (a >= nodes || b >= nodes)
-        return 4;
-    if (a == b)
-        return 5;
-    from[links] = (uint16_t)a;
-    to[links] = (uint16_t)b;
-    first[links] = NONE;
-    load[links++] = 0;
-    return 0;
-}
-
-/* The form of the whole line comes first, so that the links are judged when all of them are read. */
-static int read_packet(void)
-{
-    static uint16_t link[ZHEVGULOR_TEXT_BYTES / 2];
-    unsigned source, value, count = 0;
-    if (!tab() || !number(&source))
-        return 2;
-    while (*at == '\t') {
         at++;
-        if (!number(&value))
-            return 2;
-        link[count++] = (uint16_t)value;
-    }
-    at++;
-    if (packets == PACKETS || count > ZHEVGULOR_PATH_HOPS || hops + count > HOPS)
-        return 3;
-    if (source >= nodes)
+    else
+        while ((digit = *++at - (unsigned)'0') <= 9)
+            if ((sum = 10 * sum + digit) > 65535)
+                return NULL;
+    *value = sum;
+    return *at == '\t' || *at == '\n' ? at : NULL;
+}
+
+static inline const uint8_t *field(const uint8_t *at, unsigned *value) { return *at == '\t' ? number(at + 1, value) : NULL; }
+
+static inline int judge_link(unsigned a, unsigned b)
+{
+    return a >= nodes || b >= nodes ? 4 : a == b ? 5 : 0;
+}
+
+/* The hops of a path from its source on; each link's load grows by them. */
+static inline int judge_path(unsigned node, const uint16_t *own, unsigned count)
+{
+    if (node >= nodes)
         return 4;
-    visited[source] = ++visit;
-    unsigned node = source;
+    if (++visit == 0) { /* once in four thousand million visits */
+        memset(visited, 0, sizeof visited);
+        visit = 1;
+    }
+    visited[node] = visit;
     for (unsigned i = 0; i < count; i++) {
-        if (link[i] >= links)
+        unsigned link = own[i];
+        if (link >= links)
             return 6;
-        if (from[link[i]] != node)
+        if (from[link] != node)
             return 7;
-        node = to[link[i]];
+        node = to[link];
         if (visited[node] == visit)
             return 8;
         visited[node] = visit;
-        path[hops + i] = link[i];
-        load[link[i]]++;
+        load[link]++;
     }
-    hops += count;
-    stop[++packets] = (uint16_t)hops;
     return 0;
 }
 
-zhevgulor_answer fast_read(const uint8_t *text, size_t bytes)
+/* The lines, from the top. The bytes end in a line feed, or in a zero byte that stands behind them. */
+static zhevgulor_answer read_lines(const uint8_t *at, const uint8_t *end)
 {
     uint32_t line = 1;
-    int refusal;
-    links = packets = hops = 0;
-    stop[0] = 0;
-    if (bytes > ZHEVGULOR_TEXT_BYTES)
-        return (zhevgulor_answer){ 1, 0 };
-    at = text;
-    end = text + bytes;
-    if (at == end || *at++ != 'N' || !tab() || !number(&nodes) || !feed())
-        return (zhevgulor_answer){ 2, 1 };
+    unsigned a, b, hops = 0;
+    int refusal = 0;
+    if (*at != 'N' || !(at = field(at + 1, &nodes)) || *at++ != '\n')
+        return (zhevgulor_answer){ 2, line };
     if (nodes < 1 || nodes > NODES)
-        return (zhevgulor_answer){ 3, 1 };
-    while (at < end) {
+        return (zhevgulor_answer){ 3, line };
+    for (; at < end && *at == 'L'; at++) {
         line++;
-        uint8_t letter = *at++;
-        refusal = letter == 'L' ? read_link() : letter == 'P' ? read_packet() : 2;
-        if (refusal)
+        if (!(at = field(at + 1, &a)) || !(at = field(at, &b)) || *at != '\n')
+            return (zhevgulor_answer){ 2, line };
+        if (links == LINKS)
+            return (zhevgulor_answer){ 3, line };
+        if ((refusal = judge_link(a, b)))
             return (zhevgulor_answer){ (uint32_t)refusal, line };
+        from[links] = (uint16_t)a;
+        to[links] = (uint16_t)b;
+        load[links++] = 0;
+    }
+    for (; at < end; at++) {
+        uint16_t *own = path + hops;
+        unsigned count = 0;
+        line++;
+        if (*at != 'P' || !(at = field(at + 1, &a)))
+            return (zhevgulor_answer){ 2, line };
+        while (*at == '\t') { /* of a path that is too long the last hop is written over and over */
+            if (!(at = number(at + 1, &b)))
+                return (zhevgulor_answer){ 2, line };
+            own[count] = (uint16_t)b;
+            count += count <= PATH;
+        }
+        if (*at != '\n')
+            return (zhevgulor_answer){ 2, line };
+        if (packets == PACKETS || count > PATH || hops + count > HOPS)
+            return (zhevgulor_answer){ 3, line };
+        if ((refusal = judge_path(a, own, count)))
+            return (zhevgulor_answer){ (uint32_t)refusal, line };
+        hops += count;
+        stop[++packets] = (uint16_t)hops;
     }
     return (zhevgulor_answer){ 0, 0 };
 }
 
+zhevgulor_answer fast_read(const uint8_t *text, size_t bytes)
+{
+    static uint8_t ended[ZHEVGULOR_TEXT_BYTES + 1];
+    links = packets = 0;
+    stop[0] = 0;
+    if (bytes > ZHEVGULOR_TEXT_BYTES)
+        return (zhevgulor_answer){ 1, 0 };
+    if (bytes > 0 && text[bytes - 1] == '\n')
+        return read_lines(text, text + bytes);
+    if (bytes > 0)
+        memcpy(ended, text, bytes);
+    ended[bytes] = 0;
+    return read_lines(ended, ended + bytes);
+}
+
 /* ---- Searching ---- */
 
-static void search(unsigned k)
+/* A place for each entry to come, those of a link side by side. */
+static void open_rooms(void)
 {
-    unsigned begin = stop[k], count = stop[k + 1] - begin, met = 0;
-    for (unsigned i = 0; i < count; i++)
-        for (unsigned hop = first[path[begin + i]]; hop != NONE; hop = next[hop], met++) {
-            unsigned step = entered[hop];
-            if (step >= i)
-                ruled_out[(step - i) / 64] |= (uint64_t)1 << (step - i) % 64;
-        }
-    unsigned word = 0;
-    while (~ruled_out[word] == 0)
-        word++;
-    start[k] = (uint16_t)(64 * word + (unsigned)__builtin_ctzll(~ruled_out[word]));
-    for (unsigned i = 0; i < count; i++) {
-        unsigned hop = begin + i, link = path[hop];
-        entered[hop] = (uint16_t)(start[k] + i);
-        next[hop] = first[link];
-        first[link] = (uint16_t)hop;
+    unsigned sum = 0;
+    for (unsigned link = 0; link < links; link++) {
+        first[link] = next[link] = (uint16_t)sum;
+        sum += load[link];
     }
-    meetings += met;
+}
+
+/* Bits before that of start 0 take the marks that lie before it. */
+enum { BEFORE = (PATH / 64 + 1) * 64 };
+static uint64_t ruled_out[(BEFORE + HOPS + PATH) / 64 + 2];
+
+static unsigned first_free(const uint16_t *own, unsigned count)
+{
+    for (unsigned i = 0; i < count; i++) {
+        const uint16_t *step = entered + first[own[i]], *last = entered + next[own[i]];
+        unsigned back = BEFORE - i, at = 0;
+        uint64_t word = 0;
+        meetings += (size_t)(last - step);
+        for (; step < last; step++) {
+            unsigned bit = *step + back;
+            if (bit / 64 != at) {
+                ruled_out[at] |= word;
+                at = bit / 64;
+                word = 0;
+            }
+            word |= (uint64_t)1 << bit % 64;
+        }
+        ruled_out[at] |= word;
+    }
+    unsigned at = BEFORE / 64;
+    while (~ruled_out[at] == 0)
+        at++;
+    return 64 * at + (unsigned)__builtin_ctzll(~ruled_out[at]) - BEFORE;
 }
 
 void fast_search(void)
 {
     unsigned latest = 0;
     meetings = 0;
+    open_rooms();
     for (unsigned k = 0; k < packets; k++) {
-        memset(ruled_out, 0, (latest / 64 + 2) * sizeof ruled_out[0]);
-        search(k);
-        unsigned last = start[k] + (unsigned)(stop[k + 1] - stop[k]);
-        latest = last > latest ? last : latest;
+        const uint16_t *own = path + stop[k];
+        unsigned count = stop[k + 1] - (unsigned)stop[k];
+        memset(ruled_out, 0, ((BEFORE + latest) / 64 + 2) * sizeof ruled_out[0]);
+        start[k] = (uint16_t)first_free(own, count);
+        for (unsigned i = 0; i < count; i++)
+            entered[next[own[i]]++] = (uint16_t)(start[k] + i);
+        latest = start[k] + count > latest ? start[k] + count : latest;
     }
 }
 
@@ -165,17 +195,32 @@ size_t fast_meetings(void) { return meetings; }
 
 /* ---- Writing ---- */
 
-static uint8_t *put(uint8_t *out, unsigned n)
+static inline uint8_t *put_digit(uint8_t *out, unsigned n)
 {
-    uint8_t digit[10];
-    unsigned count = 0;
-    do
-        digit[count++] = (uint8_t)('0' + n % 10);
-    while ((n /= 10) > 0);
+    *out = (uint8_t)('0' + n);
+    return out + 1;
+}
+
+static inline uint8_t *put_pair(uint8_t *out, unsigned n)
+{
+    static const char pair[] = "00010203040506070809101112131415161718192021222324252627282930313233343536373839404142434445464748495051525354"
+                               "555657585960616263646566676869707172737475767778798081828384858687888990919293949596979899";
+    memcpy(out, pair + 2 * n, 2);
+    return out + 2;
+}
+
+static inline uint8_t *put(uint8_t *out, unsigned n)
+{
     *out++ = '\t';
-    while (count > 0)
-        *out++ = digit[--count];
-    return out;
+    if (n < 10)
+        return put_digit(out, n);
+    if (n < 100)
+        return put_pair(out, n);
+    if (n < 1000)
+        return put_pair(put_digit(out, n / 100), n % 100);
+    if (n >= 10000)
+        out = put_digit(out, n / 10000);
+    return put_pair(put_pair(out, n / 100 % 100), n % 100);
 }
 
 static uint8_t *put_line(uint8_t *out, uint8_t letter, unsigned a, unsigned b, unsigned c)
@@ -192,7 +237,7 @@ zhevgulor_answer fast_write(uint8_t *room, size_t room_bytes)
     uint8_t *out = room_bytes < ZHEVGULOR_PLAN_BYTES ? text : room, *begun = out;
     unsigned time = 0, c = 0, d = 0;
     for (unsigned k = 0; k < packets; k++) {
-        unsigned count = stop[k + 1] - stop[k], last = start[k] + count;
+        unsigned count = stop[k + 1] - (unsigned)stop[k], last = start[k] + count;
         time = last > time ? last : time;
         d = count > d ? count : d;
         out = put_line(out, 'S', k, start[k], last);
@@ -215,4 +260,100 @@ zhevgulor_answer fast_plan(const uint8_t *text, size_t bytes, uint8_t *room, siz
         return answer;
     fast_search();
     return fast_write(room, room_bytes);
+}
+
+/* ---- Checking ---- */
+
+/* The tables, 11 and 12; each link's load is counted on the way. */
+static zhevgulor_answer judge(const fast_lists *job, const uint16_t *starts, size_t starts_count)
+{
+    size_t hops = 0;
+    int refusal = 0;
+    if (job->origins_count != job->ends_count || job->sources_count != job->stops_count)
+        return (zhevgulor_answer){ 9, 0 };
+    for (size_t k = 0; k < job->stops_count; k++) {
+        if (job->stops[k] < hops)
+            return (zhevgulor_answer){ 9, 0 };
+        hops = job->stops[k];
+    }
+    if (hops != job->hops_count)
+        return (zhevgulor_answer){ 9, 0 };
+    if (job->nodes < 1 || job->nodes > NODES || job->origins_count > LINKS || job->sources_count > PACKETS || hops > HOPS)
+        return (zhevgulor_answer){ 3, 0 };
+    nodes = job->nodes;
+    links = (unsigned)job->origins_count;
+    for (unsigned link = 0; link < links; link++) {
+        if ((refusal = judge_link(job->origins[link], job->ends[link])))
+            return (zhevgulor_answer){ (uint32_t)refusal, link };
+        from[link] = job->origins[link];
+        to[link] = job->ends[link];
+        load[link] = 0;
+    }
+    for (unsigned k = 0, begin = 0; k < job->stops_count; begin = job->stops[k++]) {
+        unsigned count = job->stops[k] - begin;
+        refusal = count > PATH ? 3 : judge_path(job->sources[k], job->hops + begin, count);
+        if (refusal)
+            return (zhevgulor_answer){ (uint32_t)refusal, k };
+    }
+    if (starts_count != job->sources_count)
+        return (zhevgulor_answer){ 11, 0 };
+    for (unsigned k = 0; k < starts_count; k++)
+        if (starts[k] > ZHEVGULOR_LATEST_START)
+            return (zhevgulor_answer){ 12, k };
+    return (zhevgulor_answer){ 0, 0 };
+}
+
+/* Cuts the steps of each link before the first that stands there twice. Whether there is none. */
+static int cut_repeats(void)
+{
+    static uint32_t seen[ZHEVGULOR_LATEST_START + PATH], turn; /* the turn in which a step was seen last */
+    int clear = 1;
+    for (unsigned link = 0; link < links; link++) {
+        unsigned i = first[link], last = next[link];
+        if (last - i < 2)
+            continue;
+        if (++turn == 0) {
+            memset(seen, 0, sizeof seen);
+            turn = 1;
+        }
+        for (; i < last && seen[entered[i]] != turn; i++)
+            seen[entered[i]] = turn;
+        if (i < last) {
+            next[link] = (uint16_t)i;
+            clear = 0;
+        }
+    }
+    return clear;
+}
+
+/* The first packet with a hop at which its link's steps are cut, and the first that enters the link in the same step. */
+static void show(const fast_lists *job, const uint16_t *starts, uint32_t *clash)
+{
+    unsigned k = 0, i = 0, begin = 0, j = 0, before = 0;
+    while (first[job->hops[i]] < next[job->hops[i]])
+        first[job->hops[i++]]++;
+    while (job->stops[k] <= i)
+        begin = job->stops[k++];
+    unsigned link = job->hops[i], step = starts[k] + i - begin;
+    for (;; before = job->stops[j++])
+        if (step >= starts[j] && before + step - starts[j] < job->stops[j] && job->hops[before + step - starts[j]] == link)
+            break;
+    clash[0] = k, clash[1] = j, clash[2] = link, clash[3] = step;
+}
+
+zhevgulor_answer fast_check(const fast_lists *job, const uint16_t *starts, size_t starts_count, uint32_t *clash, size_t clash_count)
+{
+    zhevgulor_answer answer = judge(job, starts, starts_count);
+    if (answer.refusal)
+        return answer;
+    open_rooms();
+    for (unsigned k = 0, i = 0; k < job->stops_count; k++)
+        for (unsigned step = starts[k]; i < job->stops[k]; i++, step++)
+            entered[next[job->hops[i]]++] = (uint16_t)step;
+    if (cut_repeats())
+        return (zhevgulor_answer){ 0, 0 };
+    if (clash_count < ZHEVGULOR_CLASH)
+        return (zhevgulor_answer){ 10, 0 };
+    show(job, starts, clash);
+    return (zhevgulor_answer){ 0, ZHEVGULOR_CLASH };
 }
