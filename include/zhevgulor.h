@@ -69,9 +69,14 @@
  * inputs, as long as nobody writes to the lists of a call while it runs.
  *
  * STACK. All working space is on the caller's stack. Measured over the calls of the tests, with the frame of the calling function,
- * zhevgulor_plan took up to 107,184 bytes, zhevgulor_check_texts up to 68,400, zhevgulor_starts up to 51,840, zhevgulor_read_plan up
- * to 13,056, zhevgulor_plan_text up to 9,208, and the others less than 700. tests/run measures anew and fails if a call takes more
- * than ZHEVGULOR_STACK_BYTES, which leaves room above that.
+ * zhevgulor_check_texts took up to 113,440 bytes, zhevgulor_plan up to 106,936, zhevgulor_check up to 58,096, zhevgulor_starts up to
+ * 51,640, zhevgulor_read_plan up to 13,200, zhevgulor_plan_text up to 9,224, and the others less than 800. tests/run measures anew and
+ * fails if a call takes more than ZHEVGULOR_STACK_BYTES, which leaves some 17,000 bytes above that.
+ *
+ * TIME. No call waits for anything, and none takes long. The time of zhevgulor_plan and zhevgulor_starts grows with the bytes or
+ * elements that they are handed and with the meetings: how often two packets have one link, at most 8,380,416 times in a job. The time
+ * of the others grows with the bytes and elements alone. The job with the most meetings, 1,024 packets along one path of 16 links,
+ * took zhevgulor_plan 9 milliseconds where it was measured last (docs/PERFORMANCE.md); no other function took a millisecond on any job.
  */
 #ifndef ZHEVGULOR_H
 #define ZHEVGULOR_H
