@@ -5,14 +5,14 @@ ghost use mathlib.Core.List.{[], _∷_};
 ghost use Prim.Native.Nat.{ℕ, _+_, _≤_, _<_};
 ghost use lib.ListN.{length, getD, take};
 ghost use Rattle.counting.specs.Count.{among};
-ghost use Rattle.rules.specs.Handed.{given};
+ghost use Rattle.rules.specs.Handed.{given, left};
 ghost use Rattle.rules.specs.Sizes.{nodesMost, linksMost, packetsMost, pathMost, hopsMost, textMost, planMost, startMost};
 ghost use Rattle.rules.specs.Network.{paths};
 ghost use Rattle.rules.specs.Tables.{linkVerdict, walk as walkVerdict, packetVerdict, linksVerdict, packetsVerdict, stopsAgree, tables as tablesVerdict};
 ghost use Rattle.rules.specs.Answers.{startsVerdict, startedVerdict};
 ghost use Rattle.job.specs.Lists.{networkOf, networkIn, jobIn, entered, sizesFit};
 ghost use Rattle.job.specs.Told.{numberPlace, verdictOf};
-ghost use Rattle.job.specs.Visited.{MarkedAs};
+ghost use Rattle.job.specs.Visited.{markOf, withVisit, MarkedAs};
 
 // The counts of a job whose lists stand beside it.
 pub struct Job {
@@ -218,15 +218,33 @@ fn visited(ends: &[u16], path: &[u16], count: usize, source: u16, node: u16) -> 
     false
 }
 
-// The same by the node's mark, where it has one: a node of a job does.
+// The number by which a node is marked. Often a path goes on to a node of a neighbouring number, and these have their marks in different
+// words: one that was just written can be slow to read.
+fn mark_of(node: usize) -> usize
+    ensures { λ r. ⌜ r ≡ markOf node ⌝ }
+{
+    node % NODE_WORDS * 64 + node / NODE_WORDS
+}
+
+// Marks a node as visited, where it has a mark: a node of a job does.
+fn visit(words: &mut [u64], node: u16)
+    ensures { λ _. ⌜ left words ≡ withVisit (given words) node ⌝ }
+{
+    let n = wide(node);
+    if n < Job::NODES {
+        marks::mark(words, mark_of(n));
+    }
+}
+
+// Whether the node is the source, or one that the first links of the path enter: by its mark, where it has one.
 fn seen(words: &[u64], ends: &[u16], path: &[u16], count: usize, source: u16, node: u16) -> bool
     requires { ⌜ (count ≤ length (now path)) × ((q : ℕ) → q < count → getD (now path) q 0 < length (now ends))
         × MarkedAs (source ∷ entered (now ends) (take count (now path))) (now words) ⌝ }
     ensures { λ r. ⌜ r ≡ among node (source ∷ entered (given ends) (take count (given path))) ⌝ }
 {
-    let bit = wide(node);
-    if bit < Job::NODES {
-        return marks::is_marked(words, bit);
+    let asked = wide(node);
+    if asked < Job::NODES {
+        return marks::is_marked(words, mark_of(asked));
     }
     visited(ends, path, count, source, node)
 }
@@ -236,7 +254,7 @@ fn walk(origins: &[u16], ends: &[u16], path: &[u16], source: u16, place: u32) ->
     ensures { λ r. ⌜ ((n : ℕ) → verdictOf r ≡ walkVerdict (networkOf n (given origins) (given ends)) place source (source ∷ []) (given path)) ⌝ }
 {
     let mut words = [0u64; NODE_WORDS];
-    marks::mark(&mut words, wide(source));
+    visit(&mut words, source);
     let mut reached = source;
     let mut p = 0;
     while p < path.len() {
@@ -254,7 +272,7 @@ fn walk(origins: &[u16], ends: &[u16], path: &[u16], source: u16, place: u32) ->
         if seen(&words, ends, path, p, source, node) {
             return Verdict::Refused(Refusal::Revisited(place));
         }
-        marks::mark(&mut words, wide(node));
+        visit(&mut words, node);
         reached = node;
         p += 1;
     }

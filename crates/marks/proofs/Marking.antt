@@ -19,7 +19,7 @@ use Rattle.counting.proofs.Places.{from-place, zero-at}
 use Rattle.marks.specs.Marks.{digit, marked, unmarked, withMark, withStart, withStarts, numbersMost, FirstUnmarked}
 use Rattle.marks.proofs.Digits.{digit-lt, digit-of-zero, digit-or, digit-of-power, digit-of-greatest, lowest-unset}
 
-same-test : (a b c d : ℕ) → (a ≡ b → c ≡ d) → (c ≡ d → a ≡ b) → eqb a b ≡ eqb c d
+pub same-test : (a b c d : ℕ) → (a ≡ b → c ≡ d) → (c ≡ d → a ≡ b) → eqb a b ≡ eqb c d
 same-test a b c d f g = same-of-iff _ _ (λ e. eq-eqb c d (f (eqb-true a b e))) (λ e. eq-eqb a b (g (eqb-true c d e)))
 
 -- of two that are stored at one place the second stays

@@ -7,8 +7,9 @@ use Rattle.job.proofs.seen.Tie as tie
 
 returns : tie.Need-returns
 returns c =
-    let w = c .before .before in
-    c .is-marked .ensures ∙ mark-tells _ _ (w .before .before .before .before .pre .2) (w .wide .ensures) (c .before .if1 .taken)
+    let m = c .before in
+    let w = m .before .before in
+    c .is-marked .ensures ∙ mark-tells _ _ (w .before .before .before .before .pre .2) (w .wide .ensures) (m .before .if1 .taken) (m .mark-of .ensures)
 
 pub seen-spec : {M : Type 1} → statement M
-seen-spec = tie.close (tie.spec (λ c κs. search needs) (λ c κs. search needs) returns (λ c κs. search needs) (λ c. search needs))
+seen-spec = tie.close (tie.spec (λ c κs. search needs) (λ c κs. search needs) (λ c κs. search needs) returns (λ c κs. search needs) (λ c. search needs))

@@ -1,6 +1,6 @@
 -- `job::walk` meets its contract: the verdict is that of the walk that is left, and each way out of a turn is a law of the rules' walk. The
 -- nodes that are marked are those that the walk has visited.
-use mathlib.Core.Path.{_≡_, sym, _∙_}
+use mathlib.Core.Path.{_≡_, refl, sym, _∙_}
 use mathlib.Core.List.{[], _∷_}
 use Prim.Native.Nat.{ℕ, _-_, _≤_, _<_}
 use native.Mathlib.Omega.{arith}
@@ -26,30 +26,23 @@ abbrev μ-loop : tie.MeasureT-loop
 μ-loop origins ends path source place words₀ reached₀ p₀ words reached p = length path - p
 
 loop-holds : tie.Need-loop-holds Inv-loop μ-loop
-loop-holds c =
-    let m = c .before in (
-      omega arith,
-      below-none _,
-      search needs,
-      visited-start 16 _ _ (omega arith) (m .before .wide .ensures) (m .mark .ensures),
-      λ n. walk-begins _ _ _ _ _ _,
-    )
+loop-holds c = (omega arith, below-none _, search needs, visited-start 16 _ _ (omega arith) (c .before .visit .ensures), λ n. walk-begins _ _ _ _ _ _)
 
 returns : tie.Need-returns Inv-loop μ-loop
 returns c =
     let w = c .before in
-    λ n. sym (w .before .before .before .loop .inv .4 n ∙ walk-no-origin _ _ _ _ _ _ _ _ (w .wide2 .ensures) (w .before .before .loop-test .taken) (c .if1 .taken))
+    λ n. sym (w .before .before .before .loop .inv .4 n ∙ walk-no-origin _ _ _ _ _ _ _ _ (w .wide .ensures) (w .before .before .loop-test .taken) (c .if1 .taken))
 
 returns-2 : tie.Need-returns-2 Inv-loop μ-loop
 returns-2 c =
     let w = c .before .before in
-    λ n. sym (w .before .before .before .loop .inv .4 n ∙ walk-no-end _ _ _ _ _ _ _ _ (w .wide2 .ensures) (w .before .before .loop-test .taken) (c .before .if1 .left) (c .if2 .taken))
+    λ n. sym (w .before .before .before .loop .inv .4 n ∙ walk-no-end _ _ _ _ _ _ _ _ (w .wide .ensures) (w .before .before .loop-test .taken) (c .before .if1 .left) (c .if2 .taken))
 
 returns-3 : tie.Need-returns-3 Inv-loop μ-loop
 returns-3 c =
     let d = c .before .before in
     let w = d .before .before in
-    λ n. sym (w .before .before .before .loop .inv .4 n ∙ walk-not-leaving _ _ _ _ _ _ _ _ (w .wide2 .ensures) (w .before .before .loop-test .taken) (d .before .if1 .left) (d .if2 .left) (c .if3 .taken))
+    λ n. sym (w .before .before .before .loop .inv .4 n ∙ walk-not-leaving _ _ _ _ _ _ _ _ (w .wide .ensures) (w .before .before .loop-test .taken) (d .before .if1 .left) (d .if2 .left) (c .if3 .taken))
 
 seen-requires : tie.Need-seen-requires Inv-loop μ-loop
 seen-requires c κs = let l = c .before .before .before .before .before .before .before .before .before in (l .loop .inv .0, l .loop .inv .1, l .loop .inv .3)
@@ -59,22 +52,22 @@ returns-4 c =
     let h = c .before .before .before .before in
     let d = h .before .before in
     let w = d .before .before in
-    λ n. sym (w .before .before .before .loop .inv .4 n ∙ walk-revisited _ _ _ _ _ _ _ _ (w .wide2 .ensures) (w .before .before .loop-test .taken) (d .before .if1 .left) (d .if2 .left) (h .if3 .left) (c .before .seen .ensures) (c .if4 .taken))
+    λ n. sym (w .before .before .before .loop .inv .4 n ∙ walk-revisited _ _ _ _ _ _ _ _ (w .wide .ensures) (w .before .before .loop-test .taken) (d .before .if1 .left) (d .if2 .left) (h .if3 .left) (c .before .seen .ensures) (c .if4 .taken))
 
 loop-again : tie.Need-loop-again Inv-loop μ-loop
 loop-again c =
-    let m = c .before in
-    let s = m .before .before .before in
+    let v = c .before in
+    let s = v .before .before in
     let h = s .before .before .before .before in
     let d = h .before .before in
     let w = d .before .before in
     let t = w .before .before in
     let l = t .before in (
       omega arith,
-      below-more _ _ (l .loop .inv .1) (rw (← w .wide2 .ensures) (d .if2 .left)),
+      below-more _ _ (l .loop .inv .1) (rw (← w .wide .ensures) (d .if2 .left)),
       search needs,
-      visited-turn _ _ _ _ _ (w .wide2 .ensures) (t .loop-test .taken) (l .loop .inv .3) (m .before .wide3 .ensures) (m .mark2 .ensures),
-      λ n. l .loop .inv .4 n ∙ walk-on _ _ _ _ _ _ _ _ (w .wide2 .ensures) (t .loop-test .taken) (d .before .if1 .left) (d .if2 .left) (h .if3 .left) (s .before .seen .ensures) (s .if4 .left),
+      visited-turn _ _ _ _ _ (w .wide .ensures) (t .loop-test .taken) (l .loop .inv .3) refl (v .visit2 .ensures),
+      λ n. l .loop .inv .4 n ∙ walk-on _ _ _ _ _ _ _ _ (w .wide .ensures) (t .loop-test .taken) (d .before .if1 .left) (d .if2 .left) (h .if3 .left) (s .before .seen .ensures) (s .if4 .left),
     )
 
 returns-5 : tie.Need-returns-5 Inv-loop μ-loop
@@ -87,7 +80,6 @@ walk-spec =
     Inv-loop
     μ-loop
     (λ c. search needs)
-    (λ c κs. search needs)
     (λ c κs. search needs)
     loop-holds
     (λ c. search needs)
@@ -104,7 +96,6 @@ walk-spec =
     seen-requires
     returns-4
     (λ c. search needs)
-    (λ c κs. search needs)
     (λ c κs. search needs)
     (λ c. search needs)
     (λ c. search needs)

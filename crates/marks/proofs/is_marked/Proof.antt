@@ -1,7 +1,6 @@
 -- `marks::is_marked` meets its contract: the word shifted down to the number's bit has it as its lowest digit, and no number beyond the words is
 -- marked.
 use mathlib.Core.Path.{refl, sym}
-use native.Mathlib.Omega.{arith}
 use borrow.Author.Needs.{needs}
 use borrow.Author.Tests.{le-ltb}
 use Rattle.marks.specs.Marks.{digit, marked}

@@ -1,5 +1,4 @@
 -- `marks::mark_start` meets its contract: with the word in hand put back the start is marked, and where there is none nothing changes.
-use mathlib.Core.Path.{_∙_, sym}
 use borrow.Author.Needs.{needs}
 use Rattle.marks.proofs.Marking.{no-start, start-in-hand}
 use Rattle.marks.proofs.mark_start.Statement.{statement}
