@@ -21,10 +21,11 @@ use Rattle.job.specs.declared.Verdict.the-variants.{Fine, Refused as VerdictRef
 use Rattle.job.specs.Lists.{networkOf}
 use Rattle.job.specs.Told.{refusalOf, verdictOf}
 use Rattle.job.proofs.AfterVerdict.{after-refusal, after-fine}
+use Rattle.job_text.specs.declared.Line.the-variants.{Link, Packet}
 use Rattle.job_text.specs.declared.Reading.the-variants.{Read, Refused}
 use Rattle.job_text.specs.Told.{Lists, lists}
 use Rattle.job_text.specs.LineInText.{PathStands}
-use Rattle.job_text.specs.SoFar.{soFar, Room, Within, Took}
+use Rattle.job_text.specs.SoFar.{soFar, countedOf, Room, Within, Took}
 
 pub took-refusal : {o : Outcome Job} {r : Refusal} {after : Lists} → o ≡ refusalOf r → Took o (Refused r) after
 took-refusal e = record { read = sym e; within = tt }
@@ -65,8 +66,7 @@ module _ (line : ℕ) (c : Counts) (l : Lists) (room : Room l) (w : Within c) wh
         link-refused d e = took-refusal (link-judged ∙ after-refusal d e _)
 
         pub link-added : {v : Verdict} → v ≡ Fine → verdictOf v ≡ linkVerdict (c .nodes) line from to → {i : ℕ} → i ≡ c .links
-            → Took linked (Read (record { nodes = c .nodes; links = c .links + 1; packets = c .packets; hops = c .hops }))
-            (lists (set (l .origins) i from) (set (l .ends) i to) (l .sources) (l .stops) (l .hops))
+            → Took linked (Read (countedOf c (Link from to))) (lists (set (l .origins) i from) (set (l .ends) i to) (l .sources) (l .stops) (l .hops))
         link-added d e {i} at =
             let o : c .links < length (l .origins) = omega (arith, room .origins) in
             let n : c .links < length (l .ends) = omega (arith, room .ends) in
@@ -114,12 +114,12 @@ module _ (line : ℕ) (c : Counts) (l : Lists) (room : Room l) (w : Within c) wh
               rw (at, sub-zero, end, begin, n, path-here)
 
           pub packet-added : {v : Verdict} → v ≡ Fine → verdictOf v ≡ packetVerdict net line source path → {i from to : ℕ} → i ≡ c .packets → from ≡ c .hops → to ≡ from + count
-              → Took carried (Read (record { nodes = c .nodes; links = c .links; packets = c .packets + 1; hops = to })) (lists (l .origins) (l .ends) (set (l .sources) i source) (set (l .stops) i to) (l .hops))
+              → Took carried (Read (countedOf c (Packet source count))) (lists (l .origins) (l .ends) (set (l .sources) i source) (set (l .stops) i to) (l .hops))
           packet-added d e {i} {from} {to} at begin end =
               let t : c .packets < length (l .sources) = omega (arith, room .sources) in
               let u : c .packets < length (l .stops) = omega (arith, room .stops) in
               let stop : to ≡ c .hops + length path = omega (arith, s .many) in
-              let hops : take (c .hops + length path) (l .hops) ≡ take (c .hops) (l .hops) ++ path = rw (← s .many, take-add (c .hops) count (l .hops), path-here) in
+              let hops : take (c .hops + count) (l .hops) ≡ take (c .hops) (l .hops) ++ path = rw (take-add (c .hops) count (l .hops), path-here) in
               record {
                 read = sym (packet-judged ∙ after-fine d e _ ∙ rw (at, stop, add-one (c .packets), take-suc-set (l .sources) (c .packets) source, take-suc-set (l .stops) (c .packets) (c .hops + length path), hops, length-hops c l room w));
                 within = record { links = w .links; packets = omega arith; hops = omega (arith, s .many) };

@@ -1,7 +1,7 @@
 -- Line by line: what is left to read from a cursor on, with the job so far, and how that ends.
 use mathlib.Core.Path.{_≡_, refl, sym, _∙_}
 use mathlib.Core.List.{List}
-use Prim.Native.Nat.{ℕ, suc, _+_, _-_, _≤_, _<_}
+use Prim.Native.Nat.{ℕ, suc, _+_, _≤_, _<_}
 use native.Mathlib.Omega.{arith}
 use native.Mathlib.Decide.{decLt}
 use borrow.Author.Tests.{lt-ltb, le-ltb, le-leb, lt-leb, ne-eqb}
@@ -121,6 +121,9 @@ module _ {text : List ℕ} {whole : Outcome Job} {lent now : Lists} {cursor : Li
       pub found-end : {more : Counts} → told ≡ Read more → (found .end ≡ lineEnd text (cursor .at)) × (found .end < length text)
       found-end d = f .ends (not-bad d)
 
+      pub more-within : {more : Counts} → told ≡ Read more → Within more
+      more-within d = rw d at (t .within)
+
       pub going-on : {more : Counts} {next : Lines} → told ≡ Read more → SameLengths now after → next ≡ cursorAt (found .end + 1) (lineAfter (cursor .line)) → Going text whole lent after next more
       going-on {more} d s m =
           let (a, b) = found-end d in
@@ -129,7 +132,7 @@ module _ {text : List ℕ} {whole : Outcome Job} {lent now : Lists} {cursor : Li
             short = g .short;
             same = record { origins = s .origins ∙ g .same .origins; ends = s .ends ∙ g .same .ends; sources = s .sources ∙ g .same .sources; stops = s .stops ∙ g .same .stops; hops = s .hops ∙ g .same .hops };
             room = room-kept s (g .room);
-            within = rw d at (t .within);
+            within = more-within d;
             line = omega (arith, g .line, rest-length text (cursor .at));
             left = line-left ∙ rw (d, line, a);
           })

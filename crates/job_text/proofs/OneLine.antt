@@ -1,33 +1,27 @@
 -- A line by itself: what it says, from its letter and from the numbers behind that, and where it ends.
 use mathlib.Core.Path.{_≡_, refl, sym, ap, _∙_}
-use mathlib.Core.Logic.{_⊎_, inl, inr, ⊎-elim}
+use mathlib.Core.Logic.{_⊎_, ⊎-elim}
 use mathlib.Core.Bool.{Bool, true, false}
-use mathlib.Core.List.{List, [], _∷_, _++_, append-assoc, cons≢nil}
+use mathlib.Core.List.{List, [], _∷_, _++_, append-assoc}
 use mathlib.Core.Option.{Option, none, some}
 use Prim.Native.Nat.{ℕ, suc, _+_, _≤_, _<_}
-use native.Mathlib.Decide.{decLt, ℕ-discrete}
 use native.Mathlib.Omega.{arith}
-use borrow.Author.Tests.{eqb-true, eq-eqb, ne-eqb, lt-ltb, le-ltb}
+use borrow.Author.Tests.{ne-eqb, lt-ltb, le-ltb}
 use lib.Dec.{eqb, ltb}
-use lib.ListN.{length, getD, take, drop, set, drop-of-length-le}
-use lib.Seq.{length-take-le, take-set-le, take-append-seam, drop-at, drop-drop, sets, length-sets, sets-eq}
+use lib.ListN.{length, take, drop, set}
+use lib.Seq.{length-take-le, take-set-le, take-append-seam, drop-at, sets, length-sets, sets-eq}
 use Rattle.counting.specs.Count.{pick}
-use Rattle.counting.proofs.Places.{some-same, none-not-some, from-place}
-use Rattle.rules.specs.Bytes.{tab, lineFeed, letterL, letterN, letterP, numberOf, consOnto, numbersOf}
+use Rattle.rules.specs.Bytes.{lineFeed, letterL, letterN, letterP, consOnto, numbersOf, begins}
 use Rattle.rules.specs.JobText.{Line, packet, bad, letterLine, fieldsLine, lineOf}
-use Rattle.lines.specs.declared.reading.Field.{Field}
-use Rattle.lines.specs.declared.reading.Field.the-variants.{Number as Says, NoNumber as SaysNone, NoField}
 use Rattle.lines.specs.declared.reading.Copied.the-variants.{Numbers, NoNumber}
-use Rattle.lines.specs.Pieces.{before, piecesAfter}
-use Rattle.lines.specs.Fields.{firstField}
-use Rattle.lines.specs.Behind.{letterOf, lineRest, lineEnd, fieldsBehind, fieldRest, copied, leading}
-use Rattle.lines.proofs.BehindPlaces.{split-rest, letter-here, NoneBehind, behind-end, behind-feed, behind-field, end-on}
-use Rattle.lines.proofs.BehindPlaces.{SaidBehind, unsaid-behind, none-behind}
+use Rattle.lines.specs.Behind.{letterOf, lineRest, lineEnd, fieldsBehind, copied, leading}
+use Rattle.lines.proofs.BehindPlaces.{letter-here, SaidBehind}
+use Rattle.lines.proofs.LetterAndFeed.{ByLetter, line-letter, letter-open, begun, fed, unfed, Unsaid, unsaid}
 use Rattle.lines.proofs.CopyingNumbers.{all-said}
 use Rattle.job_text.specs.declared.Line.{Line as Told}
 use Rattle.job_text.specs.declared.Line.the-variants.{Nodes, Link, Packet}
 use Rattle.job_text.specs.declared.Found.{Found}
-use Rattle.job_text.specs.LineInText.{badLine, fedAt, ended, saidAt, saidBehind, pathOf, lineTold, PathStands, LineAs, FoundAs}
+use Rattle.job_text.specs.LineInText.{badLine, ended, saidAt, saidBehind, pathOf, lineTold, PathStands, LineAs, FoundAs}
 
 -- ---- a letter and the fields behind it
 
@@ -45,53 +39,19 @@ no-fields letter = go (eqb letter letterN) (eqb letter letterL) (eqb letter lett
     go false false true = refl
     go false false false = refl
 
--- behind a first byte
-abbrev behindFirst : List ℕ → Option (List ℕ)
-behindFirst bs = numbersOf (piecesAfter tab (lineRest (drop 1 bs)))
+-- a line is said by its letter and the numbers behind that
+by-letter : ByLetter bad fieldsLine letterLine
+by-letter = record {
+  empty = λ fs. refl;
+  one = λ b fs. refl;
+  longer = λ b c bs fs. refl;
+  alone = no-fields;
+  part = λ b o h. no-letter b o (λ e. omega arith) (λ e. omega arith) (λ e. omega arith);
+}
 
--- the first field is one byte in front of a tab, or there is no letter
-abbrev ByLetter : List ℕ → Type 0
-ByLetter bs = fieldsLine (fieldRest bs ∷ piecesAfter tab (lineRest (drop (length (fieldRest bs)) bs))) ≡ letterLine (letterOf bs) (behindFirst bs)
-
-zero-letter : (o : Option (List ℕ)) → letterLine 0 o ≡ bad
-zero-letter o = no-letter 0 o (λ e. omega arith) (λ e. omega arith) (λ e. omega arith)
-
--- a byte that parts fields or lines is no letter
-part-letter : (b : ℕ) (t : Bool) (o : Option (List ℕ)) → b ≤ 10 → letterLine (pick t b 0) o ≡ bad
-part-letter b true o h = no-letter b o (λ e. omega arith) (λ e. omega arith) (λ e. omega arith)
-part-letter b false o h = zero-letter o
-
-module _ (bs : List ℕ) where
-  first-empty : fieldRest bs ≡ [] → letterLine (letterOf bs) (behindFirst bs) ≡ bad → ByLetter bs
-  first-empty e w = rw e (sym w)
-
-  first-byte : (b : ℕ) → fieldRest bs ≡ b ∷ [] → letterLine b (behindFirst bs) ≡ letterLine (letterOf bs) (behindFirst bs) → ByLetter bs
-  first-byte b e w = rw e w
-
-  first-longer : (b c : ℕ) (ds : List ℕ) → fieldRest bs ≡ b ∷ c ∷ ds → letterLine (letterOf bs) (behindFirst bs) ≡ bad → ByLetter bs
-  first-longer b c ds e w = rw e (sym w)
-
-by-letter : (bs : List ℕ) → ByLetter bs
-unfolding fieldRest lineRest before numbersOf
-by-letter [] = refl
-by-letter (b ∷ []) = go (eqb b tab) refl (eqb b lineFeed) refl
-  where
-    go : (t : Bool) → eqb b tab ≡ t → (f : Bool) → eqb b lineFeed ≡ f → ByLetter (b ∷ [])
-    go true p f q = first-empty (b ∷ []) (rw p) refl
-    go false p true q = first-empty (b ∷ []) (rw (p, q)) refl
-    go false p false q = first-byte (b ∷ []) b (rw (p, q)) (no-fields b)
-by-letter (b ∷ c ∷ bs) = go (eqb b tab) refl (eqb b lineFeed) refl (eqb c tab) refl (eqb c lineFeed) refl
-  where
-    go : (t : Bool) → eqb b tab ≡ t → (f : Bool) → eqb b lineFeed ≡ f → (u : Bool) → eqb c tab ≡ u → (g : Bool) → eqb c lineFeed ≡ g → ByLetter (b ∷ c ∷ bs)
-    go true p f q u r g s = first-empty (b ∷ c ∷ bs) (rw p) (part-letter b (eqb c tab) (behindFirst (b ∷ c ∷ bs)) (omega (arith, eqb-true b tab p)))
-    go false p true q u r g s = first-empty (b ∷ c ∷ bs) (rw (p, q)) (part-letter b (eqb c tab) (behindFirst (b ∷ c ∷ bs)) (omega (arith, eqb-true b lineFeed q)))
-    go false p false q true r g s = first-byte (b ∷ c ∷ bs) b (rw (p, q, r)) (rw r)
-    go false p false q false r true s = first-byte (b ∷ c ∷ bs) b (rw (p, q, r, s)) (rw (r, s) (no-fields b))
-    go false p false q false r false s = first-longer (b ∷ c ∷ bs) b c (fieldRest bs) (rw (p, q, r, s)) (rw r (zero-letter (behindFirst (b ∷ c ∷ bs))))
-
-line-letter : (text : List ℕ) (at : ℕ) → lineOf (lineRest (drop at text)) ≡ letterLine (letterOf (drop at text)) (numbersOf (fieldsBehind text (at + 1)))
-unfolding lineOf fieldsBehind
-line-letter text at = rw (split-rest (drop at text)) (by-letter (drop at text) ∙ rw (drop-drop 1 at text))
+said-of : (text : List ℕ) (at : ℕ) → lineOf (lineRest (drop at text)) ≡ letterLine (letterOf (drop at text)) (numbersOf (fieldsBehind text (at + 1)))
+unfolding lineOf
+said-of text at = line-letter by-letter text at
 
 -- ---- whole and cut lines
 
@@ -116,19 +76,18 @@ module _ (text : List ℕ) (at : ℕ) {letter : ℕ} (e : letter ≡ letterOf (d
 
   said-letter : {l : ℕ} → letter ≡ l → lineEnd text at ≡ lineEnd text (at + 1) → saidAt text at ≡ saidBehind l text (at + 1)
   unfolding saidAt saidBehind
-  said-letter k x = rw (line-letter text at, ← e, k, x)
+  said-letter k x = rw (said-of text at, ← e, k, x)
 
   pub found-by-letter : {l : ℕ} {found : Found} {hops : List ℕ} {from : ℕ} → letter ≡ l → lineFeed < l
       → FoundAs (saidBehind l text (at + 1)) text (at + 1) found hops from → FoundAs (saidAt text at) text at found hops from
   found-by-letter k l f =
-      let (h, b) = letter-here text at (λ z. omega (arith, e, k, z)) in
-      let x = end-on text at h (λ z. omega (arith, e, b, k, z)) in
+      let (h, x) = letter-open text at (omega (arith, e, k)) in
       let w = said-letter k x in
       rw w (record { line = f .line; ends = λ n. (let (g, i) = f .ends n in (g ∙ sym x, i)) })
 
   pub said-no-letter : (letter ≡ letterN → ⊥) → (letter ≡ letterL → ⊥) → (letter ≡ letterP → ⊥) → saidAt text at ≡ bad
   unfolding saidAt
-  said-no-letter n l p = ended-bad text at _ (line-letter text at ∙ rw (← e) (no-letter letter (numbersOf (fieldsBehind text (at + 1))) n l p))
+  said-no-letter n l p = ended-bad text at _ (said-of text at ∙ rw (← e) (no-letter letter (numbersOf (fieldsBehind text (at + 1))) n l p))
 
 -- ---- what is found
 
@@ -142,65 +101,12 @@ found-said {said} {now} {text} {at} w a e h =
     let s : now ≡ said = sym w ∙ ended-whole text at said (omega arith) in
     rw s (record { line = a; ends = λ n. (e, h) })
 
--- one field or more say a number or more, if they say any
-some-field : {fields fs : List (List ℕ)} {f : List ℕ} → fields ≡ f ∷ fs → numbersOf fields ≡ some [] → ⊥
-unfolding numbersOf
-some-field {fields} {fs} {f} e n = go (numberOf f) (numbersOf fs) (rw e at n)
-  where
-    go : (a : Option ℕ) (o : Option (List ℕ)) → consOnto a o ≡ some [] → ⊥
-    go none o e = none-not-some e
-    go (some n) none e = none-not-some e
-    go (some n) (some ns) e = cons≢nil (some-same e)
-
--- a line feed at a place, or none
-module _ (text : List ℕ) (at : ℕ) where
-  fed : fedAt text at ≡ true → (at < length text) × (getD text at 0 ≡ lineFeed)
-  fed e = elim (decLt at (length text)) [
-    | yes h ↦ (h, eqb-true _ _ (rw (from-place text at h) at e))
-    | no h ↦ absurd (let l : length text ≤ at = omega arith in let w = rw (drop-of-length-le text l) at e in let z : _≡_ {A = ℕ} 0 1 = cc in omega arith)
-  ]
-
-  pub fed-here : at < length text → fedAt text at ≡ eqb (getD text at 0) lineFeed
-  fed-here h = rw (from-place text at h)
-
-  pub fed-past : length text ≤ at → fedAt text at ≡ false
-  fed-past h = rw (drop-of-length-le text h)
-
-  fed-none : fedAt text at ≡ true → NoneBehind text at
-  fed-none e = let (h, f) = fed e in behind-feed text at h f
-
-  -- the text ends there, or there is another field
-  abbrev Unended : Type 0
-  Unended = (length text ≤ lineEnd text at) ⊎ (numbersOf (fieldsBehind text at) ≡ some [] → ⊥)
-
-  unfed : fedAt text at ≡ false → Unended
-  unfed e = elim (decLt at (length text)) [
-    | no h ↦ inl (omega (arith, behind-end text at (omega arith) .ends))
-    | yes h ↦ elim (ℕ-discrete (getD text at 0) lineFeed) [
-      | yes f ↦ absurd (let w = sym (fed-here h ∙ eq-eqb _ _ f) ∙ e in let z : _≡_ {A = ℕ} 0 1 = cc in omega arith)
-      | no n ↦ inr (some-field (behind-field text at h n))
-    ]
-  ]
-
 -- ---- the three kinds of line
 
--- the field behind this place, if there is one, says no number
-abbrev pub Unsaid : List ℕ → ℕ → Type 0
-Unsaid text at = (value end : ℕ) → firstField (fieldsBehind text at) at ≡ Says value end → ⊥
-
 module _ (text : List ℕ) (at : ℕ) where
-  unsaid : Unsaid text at → (numbersOf (fieldsBehind text at) ≡ none) ⊎ (numbersOf (fieldsBehind text at) ≡ some [])
-  unfolding numbersOf
-  unsaid n = go (firstField (fieldsBehind text at) at) refl
-    where
-      go : (f : Field) → firstField (fieldsBehind text at) at ≡ f → (numbersOf (fieldsBehind text at) ≡ none) ⊎ (numbersOf (fieldsBehind text at) ≡ some [])
-      go (Says value end) e = absurd (n value end e)
-      go SaysNone e = inl (unsaid-behind text at e .0)
-      go NoField e = inr (rw (none-behind text at e .fields))
-
   pub no-first : (letter : ℕ) → Unsaid text at → saidBehind letter text at ≡ bad
   unfolding saidBehind
-  no-first letter n = ended-bad text at _ (⊎-elim (λ e. rw e) (λ e. rw e (no-fields letter)) (unsaid n))
+  no-first letter n = ended-bad text at _ (⊎-elim (λ e. rw e) (λ e. rw e (no-fields letter)) (unsaid text at n))
 
 -- N: more than one number
 more-nodes : (n : ℕ) (o : Option (List ℕ)) → (o ≡ some [] → ⊥) → letterLine letterN (consOnto (some n) o) ≡ bad
@@ -219,19 +125,19 @@ more-links a b (some (m ∷ ns)) h = refl
 
 module _ {text : List ℕ} {at first first-end : ℕ} (f : SaidBehind text at first first-end) where
   -- N
-  pub nodes-unfed : fedAt text first-end ≡ false → saidBehind letterN text at ≡ bad
+  pub nodes-unfed : begins lineFeed (drop first-end text) ≡ false → saidBehind letterN text at ≡ bad
   unfolding saidBehind
   nodes-unfed u = ⊎-elim
       (λ h. ended-cut text at _ (omega (arith, f .same-line)))
       (λ h. ended-bad text at _ (rw (f .numbers) (more-nodes first (numbersOf (fieldsBehind text first-end)) h)))
       (unfed text first-end u)
 
-  pub nodes-found : fedAt text first-end ≡ true → {hops : List ℕ} {from : ℕ}
+  pub nodes-found : begins lineFeed (drop first-end text) ≡ true → {hops : List ℕ} {from : ℕ}
       → FoundAs (saidBehind letterN text at) text at (record { line = Nodes first; end = first-end }) hops from
   unfolding saidBehind numbersOf
   nodes-found u =
-      let n = fed-none text first-end u in
-      found-said (rw (f .numbers, n .fields)) (record { says = refl; stands = tt }) (sym (f .same-line ∙ n .ends)) (fed text first-end u .0)
+      let n = fed text first-end u in
+      found-said (rw (f .numbers, n .fields)) (record { says = refl; stands = tt }) (sym (f .same-line ∙ n .ends)) (begun lineFeed text first-end u .0)
 
   -- L
   pub no-second : Unsaid text first-end → saidBehind letterL text at ≡ bad
@@ -239,19 +145,19 @@ module _ {text : List ℕ} {at first first-end : ℕ} (f : SaidBehind text at fi
   no-second n = ended-bad text at _ (rw (f .numbers) (one-link first (numbersOf (fieldsBehind text first-end)) (unsaid text first-end n)))
 
   module _ {second second-end : ℕ} (s : SaidBehind text first-end second second-end) where
-    pub link-unfed : fedAt text second-end ≡ false → saidBehind letterL text at ≡ bad
+    pub link-unfed : begins lineFeed (drop second-end text) ≡ false → saidBehind letterL text at ≡ bad
     unfolding saidBehind
     link-unfed u = ⊎-elim
         (λ h. ended-cut text at _ (omega (arith, f .same-line, s .same-line)))
         (λ h. ended-bad text at _ (rw (f .numbers, s .numbers) (more-links first second (numbersOf (fieldsBehind text second-end)) h)))
         (unfed text second-end u)
 
-    pub link-found : fedAt text second-end ≡ true → {hops : List ℕ} {from : ℕ}
+    pub link-found : begins lineFeed (drop second-end text) ≡ true → {hops : List ℕ} {from : ℕ}
         → FoundAs (saidBehind letterL text at) text at (record { line = Link first second; end = second-end }) hops from
     unfolding saidBehind numbersOf
     link-found u =
-        let n = fed-none text second-end u in
-        found-said (rw (f .numbers, s .numbers, n .fields)) (record { says = refl; stands = tt }) (sym (f .same-line ∙ s .same-line ∙ n .ends)) (fed text second-end u .0)
+        let n = fed text second-end u in
+        found-said (rw (f .numbers, s .numbers, n .fields)) (record { says = refl; stands = tt }) (sym (f .same-line ∙ s .same-line ∙ n .ends)) (begun lineFeed text second-end u .0)
 
 -- ---- the path of a packet
 

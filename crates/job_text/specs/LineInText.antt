@@ -1,13 +1,11 @@
 -- What the reader's own functions promise of a line by itself: what it says and where it ends.
 use mathlib.Core.Path.{_≡_}
-use mathlib.Core.Bool.{Bool}
 use mathlib.Core.List.{List, []}
 use Prim.Native.Nat.{ℕ, _+_, _≤_, _<_}
 use lib.Dec.{ltb}
 use lib.ListN.{length, take, drop}
 use Rattle.counting.specs.Count.{pick}
-use Rattle.rules.specs.Bytes.{lineFeed, numbersOf}
-use Rattle.rules.specs.PlanBack.{begins}
+use Rattle.rules.specs.Bytes.{numbersOf}
 use Rattle.rules.specs.JobText.{Line as Said, nodes, link, packet, bad, letterLine, lineOf}
 use Rattle.lines.specs.Behind.{lineRest, lineEnd, fieldsBehind}
 use Rattle.job_text.specs.declared.Line.{Line}
@@ -17,10 +15,6 @@ use Rattle.job_text.specs.declared.Found.{Found}
 -- what is told where there is no line of a job
 abbrev pub badLine : Found
 badLine = record { line = Bad; end = 0 }
-
--- whether a line feed stands at a place
-abbrev pub fedAt : List ℕ → ℕ → Bool
-fedAt text at = begins lineFeed (drop at text)
 
 -- a line that no line feed ends is bad
 abbrev pub ended : List ℕ → ℕ → Said → Said

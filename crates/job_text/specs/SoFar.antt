@@ -1,14 +1,18 @@
 -- What the reader's own functions promise of the job that stands in the lists so far.
 use mathlib.Core.Path.{_≡_}
 use mathlib.Core.List.{List}
-use Prim.Native.Nat.{ℕ, _≤_}
+use Prim.Native.Nat.{ℕ, _+_, _≤_}
 use lib.ListN.{length, take}
 use Rattle.rules.specs.Sizes.{linksMost, packetsMost, hopsMost}
 use Rattle.rules.specs.Network.{Job}
 use Rattle.rules.specs.Outcome.{Outcome, is}
 use Rattle.job.specs.declared.Job.{Job as Counts}
+use Rattle.job.specs.declared.Verdict.{Verdict}
+use Rattle.job.specs.declared.Verdict.the-variants.{Fine, Refused as VerdictRefused}
 use Rattle.job.specs.Lists.{jobOf}
 use Rattle.job.specs.Told.{refusalOf}
+use Rattle.job_text.specs.declared.Line.{Line}
+use Rattle.job_text.specs.declared.Line.the-variants.{Nodes, Link, Packet, Bad}
 use Rattle.job_text.specs.declared.Reading.{Reading}
 use Rattle.job_text.specs.declared.Reading.the-variants.{Read, Refused}
 use Rattle.job_text.specs.Told.{Lists, filled}
@@ -22,6 +26,18 @@ soFar c l =
 abbrev pub jobRead : Reading → Lists → Outcome Job
 jobRead (Read counts) l = is (soFar counts l)
 jobRead (Refused refusal) l = refusalOf refusal
+
+-- the counts with one more line that is taken: a link, or a packet with its hops
+abbrev pub countedOf : Counts → Line → Counts
+countedOf c (Nodes n) = c
+countedOf c (Link from to) = record { nodes = c .nodes; links = c .links + 1; packets = c .packets; hops = c .hops }
+countedOf c (Packet source count) = record { nodes = c .nodes; links = c .links; packets = c .packets + 1; hops = c .hops + count }
+countedOf c Bad = c
+
+-- counts if a verdict is fine, or else its refusal
+abbrev pub ifFine : Verdict → Counts → Reading
+ifFine Fine counts = Read counts
+ifFine (VerdictRefused refusal) counts = Refused refusal
 
 -- the lists have their sizes
 pub record Room (l : Lists) : Type 0 where

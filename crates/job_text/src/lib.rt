@@ -9,8 +9,8 @@ ghost use Rattle.rules.specs.Bytes.{lineFeed, letterL, letterN, letterP, split}
 ghost use Rattle.rules.specs.JobText.{Line as Said, link, packet as packetLine, withLine, firstLine, allLines};
 ghost use Rattle.theorems.specs.TextRest.{withRest};
 ghost use Rattle.job_text.specs.Told.{Lists, lists, listsGiven, listsLeft, roomFor, readIn, ReadAs};
-ghost use Rattle.job_text.specs.LineInText.{badLine, fedAt, saidAt, saidBehind, lineTold, PathStands, LineAs, FoundAs};
-ghost use Rattle.job_text.specs.SoFar.{soFar, Room, Within, Took, front, Fronts, keptOf};
+ghost use Rattle.job_text.specs.LineInText.{badLine, saidAt, saidBehind, lineTold, PathStands, LineAs, FoundAs};
+ghost use Rattle.job_text.specs.SoFar.{soFar, countedOf, ifFine, Room, Within, Took, front, Fronts, keptOf};
 use job::Job;
 use job::Refusal;
 use job::Verdict;
@@ -20,6 +20,7 @@ use job::wide;
 use lines::reading::Copied;
 use lines::reading::Field;
 use lines::reading::Lines;
+use lines::reading::begins_at;
 use lines::reading::copy_behind;
 use lines::reading::field_behind;
 use lines::reading::letter_at;
@@ -54,17 +55,6 @@ fn bad_line() -> Found
     }
 }
 
-// Whether a line ends at a place, by a line feed.
-fn fed_at(text: &[u8], at: usize) -> bool
-    ensures { λ r. ⌜ r ≡ fedAt (given text) at ⌝ }
-{
-    if at < text.len() {
-        text[at] == b'\n'
-    } else {
-        false
-    }
-}
-
 // N: one number behind the letter, which ends at this place.
 fn nodes_at(text: &[u8], at: usize) -> Found
     ensures { λ r. ⌜ ((hops : List ℕ) (from : ℕ) → FoundAs (saidBehind letterN (given text) at) (given text) at r hops from) ⌝ }
@@ -76,7 +66,7 @@ fn nodes_at(text: &[u8], at: usize) -> Found
     else {
         return bad_line();
     };
-    if !fed_at(text, nodes_end) {
+    if !begins_at(text, nodes_end, b'\n') {
         return bad_line();
     }
     Found {
@@ -103,7 +93,7 @@ fn link_at(text: &[u8], at: usize) -> Found
     else {
         return bad_line();
     };
-    if !fed_at(text, to_end) {
+    if !begins_at(text, to_end, b'\n') {
         return bad_line();
     }
     Found {
@@ -162,10 +152,11 @@ fn add_link(
     to: u16,
     origins: &mut [u16],
     ends: &mut [u16],
-) -> Reading
+) -> Verdict
     requires { ⌜ Within job × (linksMost ≤ length (now origins)) × (linksMost ≤ length (now ends)) ⌝ }
     ensures { λ r. ⌜ ((ss ts hs : List ℕ) → Room (lists (given origins) (given ends) ss ts hs) → Took
-        (withLine line (soFar job (lists (given origins) (given ends) ss ts hs)) (link from to)) r
+        (withLine line (soFar job (lists (given origins) (given ends) ss ts hs)) (link from to))
+        (ifFine r (countedOf job (Line.Link from to)))
         (lists (left origins) (left ends) ss ts hs)) ⌝ }
 {
     let links = wide(job.links);
@@ -173,25 +164,18 @@ fn add_link(
     let out_of_place = Refusal::BadForm(line);
     let too_many = Refusal::Size(line);
     if packets > 0 {
-        return Reading::Refused(out_of_place);
+        return Verdict::Refused(out_of_place);
     }
     if links >= Job::LINKS {
-        return Reading::Refused(too_many);
+        return Verdict::Refused(too_many);
     }
     let verdict = link_verdict(job.nodes, from, to, line);
-    match verdict {
-        Verdict::Refused(refusal) => Reading::Refused(refusal),
-        Verdict::Fine => {
-            origins[links] = from;
-            ends[links] = to;
-            Reading::Read(Job {
-                nodes: job.nodes,
-                links: job.links + 1,
-                packets: job.packets,
-                hops: job.hops,
-            })
-        }
-    }
+    let Verdict::Fine = verdict else {
+        return verdict;
+    };
+    origins[links] = from;
+    ends[links] = to;
+    Verdict::Fine
 }
 
 // P: one more packet, whose path is judged where it stands, behind the hops so far.
@@ -205,20 +189,21 @@ fn add_packet(
     sources: &mut [u16],
     stops: &mut [u16],
     hops: &[u16],
-) -> Reading
+) -> Verdict
     requires { ⌜ Within job × Room (lists (now origins) (now ends) (now sources) (now stops) (now hops)) ⌝ }
     ensures { λ r. ⌜ ((path : List ℕ) → PathStands count (given hops) (job .hops) path → Took
-        (withLine line (soFar job (listsGiven origins ends sources stops hops)) (packetLine source path)) r
+        (withLine line (soFar job (listsGiven origins ends sources stops hops)) (packetLine source path))
+        (ifFine r (countedOf job (Line.Packet source count)))
         (lists (given origins) (given ends) (left sources) (left stops) (given hops))) ⌝ }
 {
     let links = wide(job.links);
     let packets = wide(job.packets);
     let from = wide(job.hops);
     if packets >= Job::PACKETS {
-        return Reading::Refused(Refusal::Size(line));
+        return Verdict::Refused(Refusal::Size(line));
     }
     if count > Job::HOPS - from {
-        return Reading::Refused(Refusal::Size(line));
+        return Verdict::Refused(Refusal::Size(line));
     }
     let to = from + count;
     let verdict = packet_verdict(
@@ -229,22 +214,15 @@ fn add_packet(
         source,
         line,
     );
-    match verdict {
-        Verdict::Refused(refusal) => Reading::Refused(refusal),
-        Verdict::Fine => {
-            sources[packets] = source;
-            stops[packets] = to as u16;
-            Reading::Read(Job {
-                nodes: job.nodes,
-                links: job.links,
-                packets: job.packets + 1,
-                hops: to as u16,
-            })
-        }
-    }
+    let Verdict::Fine = verdict else {
+        return verdict;
+    };
+    sources[packets] = source;
+    stops[packets] = to as u16;
+    Verdict::Fine
 }
 
-// A line below the first.
+// A line below the first: what it adds goes into the lists, and `counted` has the counts.
 fn add_line(
     told: Line,
     line: u32,
@@ -254,14 +232,15 @@ fn add_line(
     sources: &mut [u16],
     stops: &mut [u16],
     hops: &[u16],
-) -> Reading
+) -> Verdict
     requires { ⌜ Within job × Room (lists (now origins) (now ends) (now sources) (now stops) (now hops)) ⌝ }
     ensures { λ r. ⌜ ((said : Said) → LineAs said told (given hops) (job .hops) → Took
-        (withLine line (soFar job (listsGiven origins ends sources stops hops)) said) r
+        (withLine line (soFar job (listsGiven origins ends sources stops hops)) said)
+        (ifFine r (countedOf job told))
         (lists (left origins) (left ends) (left sources) (left stops) (given hops))) ⌝ }
 {
     match told {
-        Line::Nodes(_) => Reading::Refused(Refusal::BadForm(line)),
+        Line::Nodes(_) => Verdict::Refused(Refusal::BadForm(line)),
         Line::Link { from, to } => add_link(line, job, from, to, origins, ends),
         Line::Packet { source, count } => add_packet(
             line,
@@ -274,7 +253,31 @@ fn add_line(
             stops,
             hops,
         ),
-        Line::Bad => Reading::Refused(Refusal::BadForm(line)),
+        Line::Bad => Verdict::Refused(Refusal::BadForm(line)),
+    }
+}
+
+// The counts with one more line, once that is taken. They are no part of the answer of `add_line`, since to take them out of an
+// enum costs time at each line.
+fn counted(job: Job, told: Line) -> Job
+    requires { ⌜ Within (countedOf job told) ⌝ }
+    ensures { λ r. ⌜ r ≡ countedOf job told ⌝ }
+{
+    match told {
+        Line::Nodes(_) => job,
+        Line::Link { from: _, to: _ } => Job {
+            nodes: job.nodes,
+            links: job.links + 1,
+            packets: job.packets,
+            hops: job.hops,
+        },
+        Line::Packet { source: _, count } => Job {
+            nodes: job.nodes,
+            links: job.links,
+            packets: job.packets + 1,
+            hops: job.hops + count as u16,
+        },
+        Line::Bad => job,
     }
 }
 
@@ -300,16 +303,12 @@ fn add_lines(
     while cursor.at < text.len() {
         let found = line_at(text, cursor.at, hops, wide(job.hops));
         let told = found.line;
-        let answer = add_line(told, cursor.line, job, origins, ends, sources, stops, hops);
-        match answer {
-            Reading::Refused(refusal) => {
-                return Reading::Refused(refusal);
-            }
-            Reading::Read(more) => {
-                job = more;
-                cursor = cursor.moved(found.end + 1);
-            }
+        let verdict = add_line(told, cursor.line, job, origins, ends, sources, stops, hops);
+        if let Verdict::Refused(refusal) = verdict {
+            return Reading::Refused(refusal);
         }
+        job = counted(job, told);
+        cursor = cursor.moved(found.end + 1);
     }
     Reading::Read(job)
 }

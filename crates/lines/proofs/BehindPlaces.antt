@@ -4,7 +4,7 @@ use mathlib.Core.Path.{_≡_, refl, sym, ap, _∙_}
 use mathlib.Core.Logic.{_⊎_, inl, inr, ⊎-elim}
 use mathlib.Core.Bool.{Bool, true, false, _||_}
 use mathlib.Core.List.{List, [], _∷_}
-use mathlib.Core.Option.{none, some}
+use mathlib.Core.Option.{Option, none, some}
 use Prim.Native.Nat.{ℕ, suc, _+_, _≤_, _<_}
 use native.Mathlib.Nat.{zero-add}
 use native.Mathlib.Decide.{decLt, ℕ-discrete}
@@ -19,10 +19,8 @@ use Rattle.rules.specs.Bytes.{tab, lineFeed, numberOf, consOnto, numbersOf, spl
 use Rattle.lines.specs.declared.reading.Field.{Field}
 use Rattle.lines.specs.declared.reading.Field.the-variants.{Number as Said, NoNumber as SaysNone, NoField}
 use Rattle.lines.specs.Pieces.{before, piecesAfter}
-use Rattle.lines.specs.Fields.{firstField}
-use Rattle.lines.specs.Behind.{letterOf, lineRest, lineEnd, fieldsBehind, fieldRest, fieldAt, leading}
+use Rattle.lines.specs.Behind.{letterOf, lineRest, lineEnd, fieldsBehind, saidUpTo, firstField, fieldRest, fieldAt, leading}
 use Rattle.lines.proofs.Cuts.{before-le, split-cut}
-use Rattle.lines.proofs.FieldsLeft.{said-some, said-none, said-not-end}
 
 -- ---- cut at tabs and line feeds
 
@@ -61,7 +59,7 @@ before-rest (b ∷ bs) = go (eqb b tab) refl (eqb b lineFeed) refl (before-rest 
     go false p true q e = closed-before (b ∷ bs) (rw (p, q))
     go false p false q e = rw (p, q) (omega arith)
 
-pub field-short : (bs : List ℕ) → length (fieldRest bs) ≤ length bs
+field-short : (bs : List ℕ) → length (fieldRest bs) ≤ length bs
 unfolding fieldRest
 field-short [] = omega arith
 field-short (b ∷ bs) = go (eqb b tab || eqb b lineFeed) (field-short bs)
@@ -174,6 +172,19 @@ module _ (text : List ℕ) (at : ℕ) where
   pub told-field : at < length text → (getD text at 0 ≡ lineFeed → ⊥) → firstField (fieldsBehind text at) at ≡ fieldAt text (at + 1)
   unfolding fieldAt
   told-field h n = rw (behind-field text at h n)
+
+-- each of the three answers on a field says what its number is
+said-some : (o : Option ℕ) (stop : ℕ) {value end : ℕ} → saidUpTo o stop ≡ Said value end → (o ≡ some value) × (stop ≡ end)
+said-some none stop e = absurd (let z : _≡_ {A = ℕ} 0 1 = cc in omega arith)
+said-some (some n) stop {value} {end} e = let v : n ≡ value = cc in (ap some v, cc)
+
+said-none : (o : Option ℕ) (stop : ℕ) → saidUpTo o stop ≡ SaysNone → o ≡ none
+said-none none stop e = refl
+said-none (some n) stop e = absurd (let z : _≡_ {A = ℕ} 0 1 = cc in omega arith)
+
+said-not-end : (o : Option ℕ) (stop : ℕ) → saidUpTo o stop ≡ NoField → ⊥
+said-not-end none stop e = let z : _≡_ {A = ℕ} 0 1 = cc in omega arith
+said-not-end (some n) stop e = let z : _≡_ {A = ℕ} 0 1 = cc in omega arith
 
 -- a field behind a place that says a number, and what is left behind it
 pub record SaidBehind (text : List ℕ) (at value end : ℕ) : Type 0 where

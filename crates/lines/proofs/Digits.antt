@@ -2,13 +2,13 @@
 use mathlib.Core.Path.{_≡_, refl}
 use mathlib.Core.Bool.{_&&_}
 use mathlib.Core.List.{List, [], _∷_}
-use mathlib.Core.Option.{none, some}
+use mathlib.Core.Option.{none}
 use Prim.Native.Nat.{ℕ, _+_, _-_, _*_, _≤_, _<_}
 use native.Mathlib.Numerals.{add-one}
 use native.Mathlib.Omega.{arith}
 use borrow.Author.Tests.{le-leb, lt-leb, eq-eqb, ne-eqb}
 use lib.Dec.{leb}
-use lib.ListN.{length, getD, drop, drop-of-length-le}
+use lib.ListN.{length, getD, drop}
 use lib.Seq.{drop-cons}
 use Rattle.counting.specs.Count.{pick}
 use Rattle.rules.specs.Sizes.{numberMost}
@@ -39,10 +39,6 @@ module _ (field : List ℕ) (i n : ℕ) (h : i < length field) where
 
       pub value-on : more ≤ numberMost → valueAfter n (drop i field) ≡ valueAfter more (drop (i + 1) field)
       value-on o = rw (value-turn, le-leb 48 byte, le-leb byte 57, le-leb more numberMost)
-
-pub value-done : (field : List ℕ) (i n : ℕ) → length field ≤ i → valueAfter n (drop i field) ≡ some n
-unfolding valueAfter
-value-done field i n h = rw (drop-of-length-le field h)
 
 pub number-empty : (field : List ℕ) → length field ≡ 0 → numberOf field ≡ none
 unfolding numberOf

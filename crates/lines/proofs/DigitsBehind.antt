@@ -9,14 +9,13 @@ use native.Mathlib.Decide.{decLt}
 use native.Mathlib.Omega.{arith}
 use borrow.Author.Tests.{ne-eqb}
 use lib.Dec.{eqb}
-use lib.ListN.{length, getD, drop, length-drop, drop-of-length-le}
+use lib.ListN.{length, getD, drop, drop-of-length-le}
 use Rattle.counting.specs.Count.{pick}
 use Rattle.counting.proofs.Places.{from-place}
 use Rattle.rules.specs.Sizes.{numberMost}
 use Rattle.rules.specs.Bytes.{tab, lineFeed, valueAfter, numberOf}
 use Rattle.lines.specs.declared.reading.Field.the-variants.{Number as Said, NoNumber as SaysNone}
 use Rattle.lines.specs.Behind.{endsHere, fieldRest, fieldAt}
-use Rattle.lines.proofs.BehindPlaces.{field-short}
 use Rattle.lines.proofs.Digits.{value-low, value-high, value-over, value-on, number-empty, number-zero, number-one, number-many}
 
 -- ---- where a field ends
@@ -81,7 +80,7 @@ pub record Digits (text : List ℕ) (begin value i : ℕ) : Type 0 where
   pub ahead : begin + length (fieldRest (drop begin text)) ≡ i + length (fieldRest (drop i text))
   pub worth : valueAfter 0 (fieldRest (drop begin text)) ≡ valueAfter value (fieldRest (drop i text))
 
-pub digits-start : (text : List ℕ) (begin : ℕ) → Digits text begin 0 begin
+digits-start : (text : List ℕ) (begin : ℕ) → Digits text begin 0 begin
 digits-start text begin = record { small = omega arith; from = omega arith; ahead = refl; worth = refl }
 
 module _ {text : List ℕ} {begin value i : ℕ} (r : Digits text begin value i) where
@@ -128,12 +127,9 @@ module _ {text : List ℕ} {begin value i : ℕ} (r : Digits text begin value i)
     whole-length : length whole ≡ i - begin
     whole-length = let f = r .from in omega (arith, r .ahead, ap length (field-ended (drop i text) e))
 
-    pub digits-none : i ≡ begin → fieldAt text begin ≡ SaysNone
+    digits-none : i ≡ begin → fieldAt text begin ≡ SaysNone
     unfolding fieldAt
     digits-none s = rw (number-empty whole (omega (arith, whole-length)))
-
-    pub digits-within : 1 < i - begin → begin < length text
-    digits-within l = omega (arith, whole-length, field-short (drop begin text), length-drop begin text)
 
     pub digits-zero : 1 < i - begin → getD text begin 0 ≡ 48 → fieldAt text begin ≡ SaysNone
     unfolding fieldAt
@@ -152,3 +148,26 @@ module _ {text : List ℕ} {begin value i : ℕ} (r : Digits text begin value i)
         ])
         z in
         rw (plain, stop, r .worth, field-ended (drop i text) e)
+
+-- ---- its first byte
+
+module _ (text : List ℕ) (begin : ℕ) where
+  abbrev start : Digits text begin 0 begin
+  start = digits-start text begin
+
+  pub no-first : length text ≤ begin → fieldAt text begin ≡ SaysNone
+  no-first h = digits-none start (ends-past text begin h) refl
+
+  pub first-low : getD text begin 0 < 48 → fieldAt text begin ≡ SaysNone
+  first-low l = go (endsHere (drop begin text)) refl
+    where
+      go : (t : Bool) → endsHere (drop begin text) ≡ t → fieldAt text begin ≡ SaysNone
+      go true e = digits-none start e refl
+      go false e = digits-low start e (λ h. l)
+
+  module _ (h : begin < length text) (l : 48 ≤ getD text begin 0) where
+    pub first-high : 57 < getD text begin 0 → fieldAt text begin ≡ SaysNone
+    first-high m = digits-high start h l m
+
+    pub first-digit : getD text begin 0 ≤ 57 → Digits text begin (getD text begin 0 - 48) (begin + 1)
+    first-digit m = let one : 0 * 10 + (getD text begin 0 - 48) ≡ getD text begin 0 - 48 = omega arith in rw one at (digits-turn start h l m (omega arith))

@@ -1,10 +1,9 @@
 pub mod Cuts
 pub mod Digits
-pub mod FieldsLeft
 pub mod BehindPlaces
+pub mod LetterAndFeed
 pub mod DigitsBehind
 pub mod CopyingNumbers
-pub mod LinesLeft
 pub mod Putting
 pub mod ReadOnce
 pub mod OneAnswer

@@ -9,8 +9,8 @@ use lib.ListN.{length, take, drop}
 use Rattle.counting.specs.Count.{pick}
 use Rattle.rules.specs.Bytes.{tab, lineFeed, numberOf}
 use Rattle.lines.specs.Pieces.{before, piecesAfter}
-use Rattle.lines.specs.Fields.{saidUpTo}
 use Rattle.lines.specs.declared.reading.Field.{Field}
+use Rattle.lines.specs.declared.reading.Field.the-variants.{Number as Said, NoNumber as SaysNone, NoField}
 use Rattle.lines.specs.declared.reading.Copied.{Copied}
 use Rattle.lines.specs.declared.reading.Copied.the-variants.{Numbers, NoNumber}
 
@@ -31,6 +31,16 @@ lineEnd text at = at + before lineFeed (drop at text)
 -- the fields of the line behind one that ends at a place, whatever byte stands there
 unfoldable pub fieldsBehind : List ℕ → ℕ → List (List ℕ)
 fieldsBehind text at = piecesAfter tab (lineRest (drop at text))
+
+-- the number of a field, and where the field ends
+abbrev pub saidUpTo : Option ℕ → ℕ → Field
+saidUpTo none end = SaysNone
+saidUpTo (some n) end = Said n end
+
+-- the first of the fields behind one that ends at a place
+abbrev pub firstField : List (List ℕ) → ℕ → Field
+firstField [] at = NoField
+firstField (f ∷ fs) at = saidUpTo (numberOf f) (at + 1 + length f)
 
 -- whether a field ends where these bytes begin
 abbrev pub endsHere : List ℕ → Bool

@@ -1,14 +1,11 @@
 // Reading of text: the line cursor, the fields of a line, and the numbers that fields say. Each function answers at any place.
 ghost use mathlib.Core.Path.{_≡_};
-ghost use Prim.Native.Nat.{_+_};
 ghost use lib.ListN.{drop};
 ghost use lib.Seq.{sets};
 ghost use Rattle.rules.specs.Handed.{given, left};
-ghost use Rattle.rules.specs.Bytes.{numberOf, numbersOf};
-ghost use Rattle.lines.specs.Pieces.{before};
-ghost use Rattle.lines.specs.Cursor.{cursorAt, lineAfter, topLine, nextLine};
-ghost use Rattle.lines.specs.Fields.{numberTold, firstField, nextField};
-ghost use Rattle.lines.specs.Behind.{letterOf, endsHere, fieldAt, fieldsBehind, lineEnd, copied, leading};
+ghost use Rattle.rules.specs.Bytes.{numbersOf, begins};
+ghost use Rattle.lines.specs.Cursor.{cursorAt, lineAfter, topLine};
+ghost use Rattle.lines.specs.Behind.{letterOf, endsHere, fieldAt, firstField, fieldsBehind, lineEnd, copied, leading};
 
 const TAB: u8 = 9;
 
@@ -22,70 +19,10 @@ const NUMBER_MOST: u32 = 65535;
 
 const LINE_MOST: u32 = 4294967295;
 
-// Where the first such byte stands, from a place on; the end, or the place itself past it, where there is none.
-pub fn find(bytes: &[u8], byte: u8, from: usize) -> usize
-    ensures { λ r. ⌜ r ≡ from + before byte (drop from (given bytes)) ⌝ }
-{
-    let mut i = from;
-    while i < bytes.len() {
-        if bytes[i] == byte {
-            return i;
-        }
-        i += 1;
-    }
-    i
-}
-
-// What a field says.
-pub enum Number {
-    Value(u16),
-    NoNumber,
-}
-
-// Digits, at least one, and no zero in front but where it is the whole field.
-pub fn number_of(field: &[u8]) -> Number
-    ensures { λ r. ⌜ numberTold r ≡ numberOf (given field) ⌝ }
-{
-    if field.len() == 0 {
-        return Number::NoNumber;
-    }
-    if field.len() > 1 && field[0] == ZERO {
-        return Number::NoNumber;
-    }
-    let mut value: u32 = 0;
-    let mut i = 0;
-    while i < field.len() {
-        let byte = field[i];
-        if byte < ZERO {
-            return Number::NoNumber;
-        }
-        if byte > NINE {
-            return Number::NoNumber;
-        }
-        value = value * 10 + (byte - ZERO) as u32;
-        if value > NUMBER_MOST {
-            return Number::NoNumber;
-        }
-        i += 1;
-    }
-    Number::Value(value as u16)
-}
-
 // Where a line begins, and its number.
 pub struct Lines {
     pub at: usize,
     pub line: u32,
-}
-
-// What stands at a cursor: a whole line, with the cursor at the next; bytes with no line feed behind them; or nothing.
-pub enum NextLine {
-    Whole {
-        begin: usize,
-        end: usize,
-        next: Lines,
-    },
-    Cut,
-    End,
 }
 
 // The number of the line after one; the greatest stays.
@@ -101,27 +38,6 @@ impl Lines {
         ensures { λ r. ⌜ r ≡ topLine ⌝ }
     {
         Lines { at: 0, line: 1 }
-    }
-
-    pub fn next(self, text: &[u8]) -> NextLine
-        ensures { λ r. ⌜ r ≡ nextLine (given text) self ⌝ }
-    {
-        let at = self.at;
-        let end = find(text, LINE_FEED, at);
-        if end < text.len() {
-            return NextLine::Whole {
-                begin: at,
-                end,
-                next: Lines {
-                    at: end + 1,
-                    line: line_after(self.line),
-                },
-            };
-        }
-        if at < text.len() {
-            return NextLine::Cut;
-        }
-        NextLine::End
     }
 
     // The cursor at the next line, where that begins.
@@ -142,18 +58,14 @@ pub enum Field {
     NoField,
 }
 
-pub fn next_field(line: &[u8], at: usize) -> Field
-    ensures { λ r. ⌜ r ≡ nextField (given line) at ⌝ }
+// Whether this byte stands at a place.
+pub fn begins_at(text: &[u8], at: usize, byte: u8) -> bool
+    ensures { λ r. ⌜ r ≡ begins byte (drop at (given text)) ⌝ }
 {
-    if at >= line.len() {
-        return Field::NoField;
-    }
-    let begin = at + 1;
-    let end = find(line, TAB, begin);
-    let number = number_of(&line[begin..end]);
-    match number {
-        Number::Value(value) => Field::Number { value, end },
-        Number::NoNumber => Field::NoNumber,
+    if at < text.len() {
+        text[at] == byte
+    } else {
+        false
     }
 }
 
@@ -181,12 +93,23 @@ fn ends_at(text: &[u8], at: usize) -> bool
     byte == TAB || byte == LINE_FEED
 }
 
-// The number of the field that begins at a place of a text, and where the field ends.
+// The number of the field that begins at a place of a text, and where the field ends. The first digit is read by itself, so that the loop
+// has nothing to tell apart.
 fn number_at(text: &[u8], begin: usize) -> Field
     ensures { λ r. ⌜ r ≡ fieldAt (given text) begin ⌝ }
 {
-    let mut value: u32 = 0;
-    let mut i = begin;
+    if begin >= text.len() {
+        return Field::NoNumber;
+    }
+    let first = text[begin];
+    if first < ZERO {
+        return Field::NoNumber;
+    }
+    if first > NINE {
+        return Field::NoNumber;
+    }
+    let mut value: u32 = (first - ZERO) as u32;
+    let mut i = begin + 1;
     while i < text.len() {
         let digit = text[i];
         if digit < ZERO {
@@ -204,10 +127,7 @@ fn number_at(text: &[u8], begin: usize) -> Field
     if !ends_at(text, i) {
         return Field::NoNumber;
     }
-    if i == begin {
-        return Field::NoNumber;
-    }
-    if i - begin > 1 && text[begin] == ZERO {
+    if i - begin > 1 && first == ZERO {
         return Field::NoNumber;
     }
     Field::Number {

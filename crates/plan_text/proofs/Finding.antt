@@ -1,8 +1,7 @@
 -- From what the reader finds in a plan's lines to the starts that they say for a job, or the refusal.
 use mathlib.Core.Path.{_≡_, refl, sym, ap, _∙_}
-use mathlib.Core.List.{List, [], _∷_, _++_}
-use Prim.Native.Nat.{ℕ, suc, _-_, _≤_}
-use native.Mathlib.Nat.{zero-add}
+use mathlib.Core.List.{List, [], _∷_}
+use Prim.Native.Nat.{ℕ, _-_, _≤_}
 use native.Mathlib.Omega.{arith}
 use lib.ListN.{length, take, drop, replicate, length-map, length-take, length-replicate}
 use lib.Seq.{sets, length-sets, sets-eq, take-append-le, take-all}
@@ -10,7 +9,7 @@ use borrow.Author.Tests.{eq-eqb, ne-eqb}
 use Rattle.rules.specs.Sizes.{textMost, packetsMost}
 use Rattle.rules.specs.Network.{Job}
 use Rattle.rules.specs.Bytes.{lineFeed, split}
-use Rattle.rules.specs.Outcome.{Outcome, is, refused, Verdict, fine, _then_, onward}
+use Rattle.rules.specs.Outcome.{fine, onward}
 use Rattle.rules.specs.PlanBack.{Row, startsOf, lastLine, followed, withRows}
 use Rattle.theorems.proofs.Verdicts.{refused-not-is}
 use Rattle.theorems.proofs.PlanBackExact.{followed-iff}

@@ -25,7 +25,7 @@ use Rattle.job.specs.Told.{verdictOf}
 use Rattle.job.proofs.AfterVerdict.{after-refusal, after-fine}
 use Rattle.plan_text.specs.HopsInLists.{hopCount, StopsOf, mostOften, ListsOf}
 use Rattle.plan_text.specs.PlanLines.{rowsIn}
-use Rattle.plan_text.proofs.PacketLoops.{paths-on, paths-done}
+use Rattle.plan_text.proofs.PacketLoops.{paths-on}
 use Rattle.plan_text.proofs.Loads.{job-congestion}
 use Rattle.plan_text.proofs.WritingPlans.{lists-stops}
 

@@ -11,11 +11,12 @@ use lib.ListN.{length, drop}
 use Rattle.counting.specs.Count.{pick}
 use Rattle.counting.proofs.Places.{none-not-some}
 use Rattle.rules.specs.Sizes.{textMost}
-use Rattle.rules.specs.Bytes.{lineFeed, letterS, letterT, split}
+use Rattle.rules.specs.Bytes.{lineFeed, letterS, letterT, split, begins}
 use Rattle.rules.specs.Outcome.{Outcome, is, refused, must, _then_, onward}
-use Rattle.rules.specs.PlanBack.{Three as Said, threeOf, ended, begins, Row, rowOf, rowsFrom, totalsOf, nothing, lastLine}
+use Rattle.rules.specs.PlanBack.{Three as Said, threeOf, ended, Row, rowOf, rowsFrom, totalsOf, nothing, lastLine}
 use Rattle.lines.specs.declared.reading.Lines.{Lines}
 use Rattle.lines.specs.Cursor.{lineMost, lineAfter, topLine}
+use Rattle.lines.proofs.LetterAndFeed.{begun}
 use Rattle.plan_text.specs.declared.reading.Three.{Three}
 use Rattle.plan_text.specs.declared.reading.Rows.{Rows}
 use Rattle.plan_text.specs.declared.reading.Rows.the-variants.{All, Bad}
@@ -23,7 +24,7 @@ use Rattle.plan_text.specs.declared.reading.Totals.{Totals}
 use Rattle.plan_text.specs.declared.reading.Totals.the-variants.{Are, Bad as BadTotals}
 use Rattle.plan_text.specs.PlanLines.{threeTold, behind, onRow, rowsLeft, rowsAt, frontRow, rowsUpTo, rowsFound}
 use Rattle.plan_text.specs.PlanLines.{onTotals, totalsLeft, totalsAt}
-use Rattle.plan_text.proofs.RowsLeft.{begins-within, begins-split, pieces-behind}
+use Rattle.plan_text.proofs.RowsLeft.{begins-split, pieces-behind}
 
 -- ---- the S lines
 
@@ -75,7 +76,7 @@ module _ (plan : List ℕ) where
     left-told c k [] e line within most = (refl, omega arith, line, most, e)
     left-told c k (p ∷ ps) e line within most =
         by-letter c k p ps line most e (begins letterS p) (ended ps (threeOf letterS p)) (λ b s o.
-        let inside = begins-within letterS plan (c .at) (sym (begins-split (drop (c .at) plan) p ps e) ∙ b) in
+        let inside = begun letterS plan (c .at) (sym (begins-split (drop (c .at) plan) p ps e) ∙ b) .0 in
         left-told (behind c p) (suc k) ps (pieces-next c p ps e o) (omega (arith, inside, small)) (omega arith) (omega (arith, inside)))
 
 -- all S lines of a plan: the rules find these rows, so many, and the pieces from this place on are those behind them

@@ -7,7 +7,7 @@ use lib.ListN.{length, take, drop, length-take}
 use borrow.Author.Tests.{le-leb, lt-leb}
 use Rattle.rules.specs.Sizes.{textMost}
 use Rattle.rules.specs.Network.{Job}
-use Rattle.rules.specs.Outcome.{Outcome, is, refused, fine, _then_, onward}
+use Rattle.rules.specs.Outcome.{Outcome, is, refused, fine, onward}
 use Rattle.rules.specs.Counts.{linkCount}
 use Rattle.rules.specs.Tables.{tables}
 use Rattle.rules.specs.PlanBack.{readBack}

@@ -1,6 +1,6 @@
 -- What is left of a plan from a place on: the line there and the pieces behind it, and the S lines with what is stored of them.
 use mathlib.Core.Path.{_≡_, refl, sym, ap, _∙_}
-use mathlib.Core.Bool.{Bool, true, false, false≢true}
+use mathlib.Core.Bool.{Bool, true, false}
 use mathlib.Core.List.{List, [], _∷_, head-eq-of-cons-eq, tail-eq-of-cons-eq, nil≢cons}
 use mathlib.Core.Option.{Option, none, some}
 use Prim.Native.Nat.{ℕ, suc, _+_, _≤_, _<_}
@@ -10,16 +10,17 @@ use native.Mathlib.Decide.{decLt}
 use native.Mathlib.Omega.{arith}
 use borrow.Author.Tests.{eqb-true, eq-eqb, ne-eqb}
 use lib.Dec.{eqb}
-use lib.ListN.{length, getD, drop, set, length-set, drop-of-length-le}
+use lib.ListN.{length, drop, set, length-set, drop-of-length-le}
 use lib.Seq.{length-take-le, drop-cons, drop-drop, sets}
 use Rattle.counting.specs.Count.{pick}
-use Rattle.rules.specs.Bytes.{lineFeed, letterS, letterT, split}
-use Rattle.rules.specs.PlanBack.{Three as Said, threeOf, ended, begins, startsOf, nothing}
+use Rattle.rules.specs.Bytes.{lineFeed, letterS, letterT, split, begins}
+use Rattle.rules.specs.PlanBack.{Three as Said, threeOf, ended, startsOf, nothing}
 use Rattle.theorems.proofs.TextPieces.{split-first}
 use Rattle.lines.specs.declared.reading.Lines.{Lines}
 use Rattle.lines.specs.Cursor.{lineAfter}
 use Rattle.lines.specs.Pieces.{before, piecesAfter}
 use Rattle.lines.proofs.Cuts.{before-le, split-cut}
+use Rattle.lines.proofs.LetterAndFeed.{begun}
 use Rattle.plan_text.specs.declared.reading.Three.{Three}
 use Rattle.plan_text.specs.declared.reading.Rows.{Rows}
 use Rattle.plan_text.specs.declared.reading.ThreeLine.the-variants.{Is, Other}
@@ -28,17 +29,7 @@ use Rattle.plan_text.specs.declared.reading.Totals.the-variants.{Are, Ba
 use Rattle.plan_text.specs.PlanLines.{threeTold, toldThree, behind, withNext, lineAt, rowsLeft, rowsAt, rowsUpTo, rowsFound}
 use Rattle.plan_text.specs.PlanLines.{endsOf, startsStored, endsStored, totalsAt}
 
--- ---- a letter at a place
-
-module _ (letter : ℕ) (bytes : List ℕ) (at : ℕ) where
-  pub begins-here : at < length bytes → eqb (getD bytes at 0) letter ≡ begins letter (drop at bytes)
-  begins-here h = rw (drop-cons bytes at 0)
-
-  pub begins-past : length bytes ≤ at → false ≡ begins letter (drop at bytes)
-  begins-past h = rw (drop-of-length-le bytes h)
-
-  pub begins-within : begins letter (drop at bytes) ≡ true → at < length bytes
-  begins-within b = elim (decLt at (length bytes)) [ yes h ↦ h | no h ↦ absurd (false≢true (begins-past (omega arith) ∙ b)) ]
+-- ---- a letter in front
 
 -- the first piece begins as the bytes do
 pub begins-split : (bs p : List ℕ) (ps : List (List ℕ)) → split lineFeed bs ≡ p ∷ ps → begins letterS p ≡ begins letterS bs
@@ -171,7 +162,7 @@ module _ {plan starts₀ ends₀ : List ℕ} {c₀ : Lines} {starts ends : List 
 
   module _ (b : begins letterS (drop (c .at) plan) ≡ true) where
     pub left-inside : c .at < length plan
-    left-inside = begins-within letterS plan (c .at) b
+    left-inside = begun letterS plan (c .at) b .0
 
     pub left-none : lineAt plan c letterS ≡ Other → Told (Bad (c .line))
     left-none e = finish (rows-none plan c k b (no-line plan c e))

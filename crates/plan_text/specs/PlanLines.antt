@@ -9,13 +9,11 @@ use lib.Seq.{sets}
 use Rattle.counting.specs.Count.{pick}
 use Rattle.rules.specs.Network.{Job}
 use Rattle.rules.specs.Outcome.{Outcome, onward}
-use Rattle.rules.specs.Bytes.{lineFeed, letterS, letterT, split}
-use Rattle.rules.specs.PlanBack.{Three as Said, threeOf, ended, begins, Row, rowsFrom, startsOf, nothing, withRows}
+use Rattle.rules.specs.Bytes.{lineFeed, letterS, letterT, split, begins}
+use Rattle.rules.specs.PlanBack.{Three as Said, threeOf, ended, Row, rowsFrom, startsOf, nothing, withRows}
 use Rattle.lines.specs.declared.reading.Lines.{Lines}
 use Rattle.lines.specs.Cursor.{lineAfter}
 use Rattle.plan_text.specs.declared.reading.Three.{Three}
-use Rattle.plan_text.specs.declared.reading.Said.{Said as Line}
-use Rattle.plan_text.specs.declared.reading.Said.the-variants.{Three as Says, Nothing}
 use Rattle.plan_text.specs.declared.reading.ThreeLine.{ThreeLine}
 use Rattle.plan_text.specs.declared.reading.ThreeLine.the-variants.{Is, Other}
 use Rattle.plan_text.specs.declared.reading.Rows.{Rows}
@@ -31,10 +29,6 @@ threeTold t = record { first = t .first; second = t .second; third = t .third }
 
 abbrev pub toldThree : Said → Three
 toldThree t = record { first = t .first; second = t .second; third = t .third }
-
-abbrev pub saidTold : Line → Option Said
-saidTold (Says t) = some (threeTold t)
-saidTold Nothing = none
 
 -- ---- the line at a place
 

@@ -2,20 +2,21 @@
 // functions over plain bytes and a line cursor; those of the reader take it apart and call one.
 ghost use mathlib.Core.Path.{_≡_};
 ghost use mathlib.Core.List.{List, _++_};
-ghost use Prim.Native.Nat.{ℕ, _≤_};
+ghost use Prim.Native.Nat.{ℕ, _≤_, _<_};
 ghost use lib.ListN.{length, drop, set};
 ghost use Rattle.rules.specs.Handed.{given, left};
 ghost use Rattle.rules.specs.Sizes.{textMost, packetsMost};
+ghost use Rattle.rules.specs.Bytes.{lineFeed};
 ghost use Rattle.rules.specs.Travel.{oneStep};
 ghost use Rattle.rules.specs.Outcome.{fine, onward};
 ghost use Rattle.rules.specs.Network.{Job as RuledJob};
-ghost use Rattle.rules.specs.PlanBack.{threeOf, begins, rowsVerdict, totalsVerdict, followed as followedStarts};
+ghost use Rattle.rules.specs.PlanBack.{rowsVerdict, totalsVerdict, followed as followedStarts};
 ghost use Rattle.rules.specs.Answers.{planReadIn};
 ghost use Rattle.job.specs.Lists.{jobIn};
 ghost use Rattle.job.specs.Told.{verdictOf};
 ghost use Rattle.lines.specs.Cursor.{topLine};
 ghost use Rattle.plan_text.specs.HopsInLists.{Rising, StopsOf, OfAJob, Writable, ListsOf};
-ghost use Rattle.plan_text.specs.PlanLines.{saidTold, threeTold, lineAt, rowsAt, rowsFound, startsStored, endsStored, totalsAt, rowsIn, linesSay};
+ghost use Rattle.plan_text.specs.PlanLines.{threeTold, lineAt, rowsAt, rowsFound, startsStored, endsStored, totalsAt, rowsIn, linesSay};
 ghost use Rattle.plan_text.specs.Told.{FoundAs, ReadBackAs};
 use crate::congestion;
 use crate::dilation;
@@ -27,11 +28,9 @@ use job::Verdict;
 use job::wide;
 use lines::reading::Field;
 use lines::reading::Lines;
-use lines::reading::NextLine;
-use lines::reading::find;
-use lines::reading::next_field;
-
-const TAB: u8 = 9;
+use lines::reading::begins_at;
+use lines::reading::field_behind;
+use lines::reading::letter_at;
 
 // The three numbers of a line.
 struct Three {
@@ -40,80 +39,54 @@ struct Three {
     third: u16,
 }
 
-// What a line by itself says: three numbers behind its letter, or nothing of the kind.
-enum Said {
-    Three(Three),
-    Nothing,
-}
-
-// A line of this letter and three numbers.
-fn three_of(line: &[u8], letter: u8) -> Said
-    ensures { λ r. ⌜ saidTold r ≡ threeOf letter (given line) ⌝ }
-{
-    if find(line, TAB, 0) != 1 {
-        return Said::Nothing;
-    }
-    if line[0] != letter {
-        return Said::Nothing;
-    }
-    let Field::Number {
-        value: first,
-        end: second_at,
-    } = next_field(line, 1)
-    else {
-        return Said::Nothing;
-    };
-    let Field::Number {
-        value: second,
-        end: third_at,
-    } = next_field(line, second_at)
-    else {
-        return Said::Nothing;
-    };
-    let Field::Number { value: third, end } = next_field(line, third_at) else {
-        return Said::Nothing;
-    };
-    if end < line.len() {
-        return Said::Nothing;
-    }
-    Said::Three(Three {
-        first,
-        second,
-        third,
-    })
-}
-
 // What stands at a place of a text: a whole line of a letter and three numbers, with the place of the next line; or no such line.
 enum ThreeLine {
     Is { said: Three, next: Lines },
     Other,
 }
 
+// Such a line is read from its letter on: three numbers behind it, and a line feed behind those. The letter parts no fields or lines, and is
+// not the 0 that tells that there is none.
 fn line_at(text: &[u8], place: Lines, letter: u8) -> ThreeLine
+    requires { ⌜ lineFeed < letter ⌝ }
     ensures { λ r. ⌜ r ≡ lineAt (given text) place letter ⌝ }
 {
-    let line = place.next(text);
-    match line {
-        NextLine::Whole { begin, end, next } => {
-            let said = three_of(&text[begin..end], letter);
-            match said {
-                Said::Three(said) => ThreeLine::Is { said, next },
-                Said::Nothing => ThreeLine::Other,
-            }
-        }
-        NextLine::Cut => ThreeLine::Other,
-        NextLine::End => ThreeLine::Other,
+    let at = place.at;
+    if letter_at(text, at) != letter {
+        return ThreeLine::Other;
     }
-}
-
-// Whether the bytes from a place on begin with this letter.
-fn begins_at(bytes: &[u8], at: usize, letter: u8) -> bool
-    ensures { λ r. ⌜ r ≡ begins letter (drop at (given bytes)) ⌝ }
-{
-    if at < bytes.len() {
-        bytes[at] == letter
-    } else {
-        false
+    let Field::Number {
+        value: first,
+        end: first_end,
+    } = field_behind(text, at + 1)
+    else {
+        return ThreeLine::Other;
+    };
+    let Field::Number {
+        value: second,
+        end: second_end,
+    } = field_behind(text, first_end)
+    else {
+        return ThreeLine::Other;
+    };
+    let Field::Number {
+        value: third,
+        end: third_end,
+    } = field_behind(text, second_end)
+    else {
+        return ThreeLine::Other;
+    };
+    if !begins_at(text, third_end, b'\n') {
+        return ThreeLine::Other;
+    }
+    let said = Three {
+        first,
+        second,
+        third,
+    };
+    ThreeLine::Is {
+        said,
+        next: place.moved(third_end + 1),
     }
 }
 

@@ -1,6 +1,6 @@
 -- Document 01, "Job text and plan text": bytes, numbers and lines. A byte is a number; one that is no letter, digit, tab or
 -- line feed in its place, be it over 255, is bad form like any other.
-use mathlib.Core.Bool.{true, false, _&&_}
+use mathlib.Core.Bool.{Bool, true, false, _&&_}
 use mathlib.Core.List.{List, [], _∷_, _++_}
 use mathlib.Core.Option.{Option, none, some}
 use Prim.Native.Nat.{ℕ, zero, suc, _+_, _-_, _*_, _/_, _%_}
@@ -88,3 +88,8 @@ onto b (p ∷ ps) = (b ∷ p) ∷ ps
 unfoldable pub split : ℕ → List ℕ → List (List ℕ)
 split c [] = [] ∷ []
 split c (b ∷ bs) = pick (eqb b c) ([] ∷ split c bs) (onto b (split c bs))
+
+-- whether this byte stands first
+abbrev pub begins : ℕ → List ℕ → Bool
+begins c [] = false
+begins c (b ∷ bs) = eqb b c

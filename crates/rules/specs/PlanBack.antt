@@ -14,7 +14,7 @@ use Rattle.rules.specs.Travel.{delayIn}
 use Rattle.rules.specs.Outcome.{Outcome, is, refused, Verdict, fine, must, _then_, onward}
 use Rattle.rules.specs.Tables.{tables}
 use Rattle.rules.specs.Counts.{endOf, routingTime, congestion, dilation}
-use Rattle.rules.specs.Bytes.{tab, lineFeed, letterS, letterT, numbersOf, split}
+use Rattle.rules.specs.Bytes.{tab, lineFeed, letterS, letterT, numbersOf, split, begins}
 
 -- ---- a line by itself
 
@@ -48,10 +48,6 @@ ended [] o = none
 ended (q ∷ qs) o = o
 
 -- ---- the S lines
-
-abbrev pub begins : ℕ → List ℕ → Bool
-begins letter [] = false
-begins letter (b ∷ bs) = eqb b letter
 
 -- what a packet's line says of it
 pub record Row : Type 0 where

@@ -16,9 +16,9 @@ use Rattle.rules.specs.Network.{Job, paths}
 use Rattle.rules.specs.Travel.{delayIn, travel}
 use Rattle.rules.specs.Outcome.{Outcome, is, fine, onward}
 use Rattle.rules.specs.Counts.{endOf, routingTime, congestion, dilation}
-use Rattle.rules.specs.Bytes.{lineFeed, letterS, letterT, lineText, split}
+use Rattle.rules.specs.Bytes.{lineFeed, letterS, letterT, lineText, split, begins}
 use Rattle.rules.specs.PlanText.{packetLines, planText}
-use Rattle.rules.specs.PlanBack.{Three, threeOf, ended, begins, Row, rowOf, rowsFrom, nothing, totalsOf, lastLine}
+use Rattle.rules.specs.PlanBack.{Three, threeOf, ended, Row, rowOf, rowsFrom, nothing, totalsOf, lastLine}
 use Rattle.rules.specs.PlanBack.{rowsVerdict, startsOf, totalsVerdict, followed, withRows, readBack}
 use Rattle.rules.specs.Answers.{startedVerdict, inRoom, planReadIn}
 use Rattle.theorems.specs.Jobs.{IsJob}

@@ -17,8 +17,8 @@ use Rattle.rules.specs.Travel.{delayIn}
 use Rattle.rules.specs.Outcome.{is, refused, must, _then_, onward}
 use Rattle.rules.specs.Tables.{tables}
 use Rattle.rules.specs.Counts.{endOf, routingTime, congestion, dilation}
-use Rattle.rules.specs.Bytes.{lineFeed, letterS, letterT, split}
-use Rattle.rules.specs.PlanBack.{Three, threeOf, ended, begins, Row, rowOf, rowsFrom, nothing, totalsOf, lastLine}
+use Rattle.rules.specs.Bytes.{lineFeed, letterS, letterT, split, begins}
+use Rattle.rules.specs.PlanBack.{Three, threeOf, ended, Row, rowOf, rowsFrom, nothing, totalsOf, lastLine}
 use Rattle.rules.specs.PlanBack.{rowsVerdict, startsOf, totalsVerdict, followed, withRows, readBack}
 use Rattle.theorems.specs.Jobs.{IsJob}
 use Rattle.theorems.specs.TextNumbers.{planNumbers, RefusedBy}

@@ -11,10 +11,10 @@ unfolding withLine
 returns c = λ said a. took-refusal (rw (told-line a (c .enum-told .given .1)))
 
 returns-2 : tie.Need-returns-2
-returns-2 c = λ said a. rw (told-line a (c .before .before .before .before .before .before .before .before .told .given .1)) (c .before .before .before .before .add-link .ensures _ _ _ (c .before .before .before .before .before .before .before .before .before .before .before .before .before .before .before .pre .1))
+returns-2 c = λ said a. (let d = c .before .before .before .before .before .before .before .before .told .given .1 in rw (told-line a d, d) (c .before .before .before .before .add-link .ensures _ _ _ (c .before .before .before .before .before .before .before .before .before .before .before .before .before .before .before .pre .1)))
 
 returns-3 : tie.Need-returns-3
-returns-3 c = λ said a. (let d = c .before .before .before .before .before .before .before .before .before .before .told2 .given .1 in rw (told-line a d) (c .before .before .before .before .add-packet .ensures _ (told-path a d)))
+returns-3 c = λ said a. (let d = c .before .before .before .before .before .before .before .before .before .before .told2 .given .1 in rw (told-line a d, d) (c .before .before .before .before .add-packet .ensures _ (told-path a d)))
 
 returns-4 : tie.Need-returns-4
 unfolding withLine

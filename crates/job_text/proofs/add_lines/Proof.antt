@@ -1,5 +1,5 @@
 -- `job_text::add_lines` meets its contract: what is left of the lines, with the job so far, is what was to be read.
-use mathlib.Core.Path.{_≡_, _∙_}
+use mathlib.Core.Path.{_≡_, sym, ap, _∙_}
 use Prim.Native.Nat.{_-_, _<_}
 use native.Mathlib.Omega.{arith}
 use borrow.Author.Needs.{needs}
@@ -10,11 +10,13 @@ use Rattle.rules.specs.JobText.{withLine}
 use Rattle.theorems.specs.TextRest.{withRest}
 use Rattle.lines.specs.Behind.{lineEnd}
 use Rattle.lines.proofs.BehindPlaces.{rest-length}
+use Rattle.job.specs.declared.Job.{Job as Counts}
+use Rattle.job_text.specs.declared.Reading.the-variants.{Read}
 use Rattle.job_text.specs.Told.{lists}
 use Rattle.job_text.specs.LineInText.{saidAt}
-use Rattle.job_text.specs.SoFar.{soFar, Took}
+use Rattle.job_text.specs.SoFar.{soFar, countedOf, ifFine, Took}
 use Rattle.job_text.proofs.OneLine.{told-from}
-use Rattle.job_text.proofs.LineByLine.{SameLengths, room-copied, Going, going, going-end, going-refused, found-end, moved-at, going-on}
+use Rattle.job_text.proofs.LineByLine.{SameLengths, room-copied, Going, going, going-end, going-refused, found-end, more-within, moved-at, going-on}
 use Rattle.job_text.proofs.add_lines.Statement.{statement}
 use Rattle.job_text.proofs.add_lines.Tie as tie
 
@@ -46,7 +48,7 @@ took : (a : tie.After-add-line Inv-loop μ-loop)
     → let l = a .before .before .before .before .before .before .before .before .before .before .before .before .before .loop in
     let after = a .add-line .last .1 .1 .1 in
     let hops = a .before .before .before .before .before .before .before .before .line-at .last .1 .1 .0 in
-    Took (withLine (l .cursor .line) (soFar (l .job) (lists (l .origins) (l .ends) (l .sources) (l .stops) hops)) (saidAt (now (a .before .before .before .before .before .before .before .before .before .before .before .before .before .before .before .before .before .before .before .before .args .text)) (l .cursor .at))) (a .add-line .result)
+    Took (withLine (l .cursor .line) (soFar (l .job) (lists (l .origins) (l .ends) (l .sources) (l .stops) hops)) (saidAt (now (a .before .before .before .before .before .before .before .before .before .before .before .before .before .before .before .before .before .before .before .before .args .text)) (l .cursor .at))) (ifFine (a .add-line .result) (countedOf (l .job) (a .before .before .before .before .before .before .before .before .line-at .result .line)))
     (lists (after .0) (after .1 .0) (after .1 .1 .0) (after .1 .1 .1 .0) hops)
 took a = a .add-line .ensures _ (told-from (a .before .before .before .before .before .before .before .before .line-at .ensures .0 .line) (a .before .before .before .before .before .before .before .before .before .wide .ensures))
 
@@ -69,29 +71,42 @@ returns : tie.Need-returns Inv-loop μ-loop
 returns c =
     let a = c .before .before .before .before .before .before .before .before .before .before .before in
     let f = a .before .before .before .before .before .before .before .before .line-at .ensures in
-    going-refused (a .before .before .before .before .before .before .before .before .before .before .before .before .before .loop .inv) (a .before .before .before .before .before .before .before .before .before .before .before .if1 .taken) (f .0) (f .1) (a .before .before .before .before .before .before .before .before .before .wide .ensures) (took a) (c .before .answer .given .1)
+    going-refused (a .before .before .before .before .before .before .before .before .before .before .before .before .before .loop .inv) (a .before .before .before .before .before .before .before .before .before .before .before .if1 .taken) (f .0) (f .1) (a .before .before .before .before .before .before .before .before .before .wide .ensures) (took a) (rw (c .before .verdict .given .1))
 
--- where the line ends
-ended : (c : tie.After-known-told2 Inv-loop μ-loop)
-    → let a = c .before .before .before .before .before .before .before .before .before .before .before in
-    let end = a .before .before .before .before .before .before .before .before .line-at .result .end in
-    (end ≡ lineEnd (now (a .before .before .before .before .before .before .before .before .before .before .before .before .before .before .before .before .before .before .before .before .args .text)) (a .before .before .before .before .before .before .before .before .before .before .before .before .before .loop .cursor .at)) × (end < length (now (a .before .before .before .before .before .before .before .before .before .before .before .before .before .before .before .before .before .before .before .before .args .text)))
-ended c =
-    let a = c .before .before .before .before .before .before .before .before .before .before .before in
+-- a line that is taken: its counts, and where it ends
+module _ (e : tie.After-enum-told Inv-loop μ-loop) where
+  abbrev more : Counts
+  more = countedOf (e .before .before .before .before .before .before .before .before .before .before .before .before .before .before .before .before .before .before .before .before .before .before .before .loop .job) (e .before .before .before .before .before .before .before .before .before .before .before .before .before .before .before .before .before .before .line-at .result .line)
+
+  fine : ifFine (e .before .before .before .before .before .before .before .before .before .before .add-line .result) more ≡ Read more
+  fine = rw (e .enum-told .given .1)
+
+  ended : let end = e .before .before .before .before .before .before .before .before .before .before .before .before .before .before .before .before .before .before .line-at .result .end in
+      (end ≡ lineEnd (now (e .before .before .before .before .before .before .before .before .before .before .before .before .before .before .before .before .before .before .before .before .before .before .before .before .before .before .before .before .before .before .args .text)) (e .before .before .before .before .before .before .before .before .before .before .before .before .before .before .before .before .before .before .before .before .before .before .before .loop .cursor .at)) × (end < length (now (e .before .before .before .before .before .before .before .before .before .before .before .before .before .before .before .before .before .before .before .before .before .before .before .before .before .before .before .before .before .before .args .text)))
+  ended =
+      let a = e .before .before .before .before .before .before .before .before .before .before in
+      let f = a .before .before .before .before .before .before .before .before .line-at .ensures in
+      found-end (a .before .before .before .before .before .before .before .before .before .before .before .before .before .loop .inv) (a .before .before .before .before .before .before .before .before .before .before .before .if1 .taken) (f .0) (f .1) (a .before .before .before .before .before .before .before .before .before .wide .ensures) (took a) fine
+
+counted-requires : tie.Need-counted-requires Inv-loop μ-loop
+counted-requires c κs =
+    let a = c .before .before .before .before .before .before .before .before .before .before in
     let f = a .before .before .before .before .before .before .before .before .line-at .ensures in
-    found-end (a .before .before .before .before .before .before .before .before .before .before .before .before .before .loop .inv) (a .before .before .before .before .before .before .before .before .before .before .before .if1 .taken) (f .0) (f .1) (a .before .before .before .before .before .before .before .before .before .wide .ensures) (took a) (c .before .answer2 .given .1)
+    more-within (a .before .before .before .before .before .before .before .before .before .before .before .before .before .loop .inv) (a .before .before .before .before .before .before .before .before .before .before .before .if1 .taken) (f .0) (f .1) (a .before .before .before .before .before .before .before .before .before .wide .ensures) (took a) (fine c)
 
 add-moved : tie.Need-add-moved Inv-loop μ-loop
-add-moved c = omega (arith, ended (c .before) .1, c .before .before .before .before .before .before .before .before .before .before .before .before .before .before .before .before .before .before .before .before .before .before .before .before .before .loop .inv .short)
+add-moved c = omega (arith, ended (c .before .before) .1, c .before .before .before .before .before .before .before .before .before .before .before .before .before .before .before .before .before .before .before .before .before .before .before .before .before .loop .inv .short)
 
 loop-less : tie.Need-loop-less Inv-loop μ-loop
-loop-less c = omega (arith, moved-at (c .moved .ensures), ended (c .before .before) .0, ended (c .before .before) .1, rest-length (now (c .before .before .before .before .before .before .before .before .before .before .before .before .before .before .before .before .before .before .before .before .before .before .before .before .before .before .before .before .before .before .before .before .before .args .text)) (c .before .before .before .before .before .before .before .before .before .before .before .before .before .before .before .before .before .before .before .before .before .before .before .before .before .before .loop .cursor .at))
+loop-less c =
+    let e = c .before .before .before in
+    omega (arith, moved-at (c .moved .ensures), ended e .0, ended e .1, rest-length (now (e .before .before .before .before .before .before .before .before .before .before .before .before .before .before .before .before .before .before .before .before .before .before .before .before .before .before .before .before .before .before .args .text)) (e .before .before .before .before .before .before .before .before .before .before .before .before .before .before .before .before .before .before .before .before .before .before .before .loop .cursor .at))
 
 loop-again : tie.Need-loop-again Inv-loop μ-loop
 loop-again c =
     let a = c .before .before .before .before .before .before .before .before .before .before .before .before .before in
     let f = a .before .before .before .before .before .before .before .before .line-at .ensures in
-    going-on (a .before .before .before .before .before .before .before .before .before .before .before .before .before .loop .inv) (a .before .before .before .before .before .before .before .before .before .before .before .if1 .taken) (f .0) (f .1) (a .before .before .before .before .before .before .before .before .before .wide .ensures) (took a) (c .before .before .before .answer2 .given .1) (kept a) (c .moved .ensures)
+    going-on (a .before .before .before .before .before .before .before .before .before .before .before .before .before .loop .inv) (a .before .before .before .before .before .before .before .before .before .before .before .if1 .taken) (f .0) (f .1) (a .before .before .before .before .before .before .before .before .before .wide .ensures) (took a) (fine (c .before .before .before) ∙ ap Read (sym (c .before .before .counted .ensures))) (kept a) (c .moved .ensures)
 
 same-length-6 : tie.Need-same-length-6 Inv-loop μ-loop
 same-length-6 c = c .before .before .loop .inv .same .origins
@@ -129,6 +144,7 @@ add-lines-spec =
     same-length-5
     returns
     (λ c. search needs)
+    counted-requires
     add-moved
     (λ c κs. search needs)
     loop-less

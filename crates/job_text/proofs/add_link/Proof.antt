@@ -13,13 +13,14 @@ returns-2 c = λ ss ts hs room. link-over _ _ _ room (c .before .before .before 
 
 returns-3 : tie.Need-returns-3
 returns-3 c =
-    let w = c .before .before .before in
-    λ ss ts hs room. link-refused _ _ _ room (w .before .before .before .before .before .before .before .pre .0) _ _ (omega (arith, w .before .before .if1 .left)) (omega arith) (c .before .verdict .given .1) (w .link-verdict .ensures)
+    let w = c .before .before in
+    let d = c .enum-told2 .given .1 in
+    λ ss ts hs room. rw d (link-refused _ _ _ room (w .before .before .before .before .before .before .before .pre .0) _ _ (omega (arith, w .before .before .if1 .left)) (omega arith) d (w .link-verdict .ensures))
 
 returns-4 : tie.Need-returns-4
 returns-4 c =
-    let w = c .before .before .before in
-    λ ss ts hs room. link-added _ _ _ room (w .before .before .before .before .before .before .before .pre .0) _ _ (omega (arith, w .before .before .if1 .left)) (omega arith) (c .before .enum-told .given .1) (w .link-verdict .ensures) (w .before .before .before .before .wide .ensures)
+    let w = c .before .before in
+    λ ss ts hs room. link-added _ _ _ room (w .before .before .before .before .before .before .before .pre .0) _ _ (omega (arith, w .before .before .if1 .left)) (omega arith) (c .enum-told .given .1) (w .link-verdict .ensures) (w .before .before .before .before .wide .ensures)
 
 pub add-link-spec : {M : Type 1} → statement M
 add-link-spec =
@@ -32,12 +33,11 @@ add-link-spec =
     (λ c κs. search needs)
     (λ c. search needs)
     (λ c. search needs)
-    (λ c. search needs)
-    (λ c. search needs)
-    (λ c. search needs)
-    (λ c. search needs)
-    (λ c. search needs)
     returns-3
+    (λ c. search needs)
+    (λ c. search needs)
+    (λ c. search needs)
+    (λ c. search needs)
     (λ c. search needs)
     (λ c. search needs)
     returns-4)

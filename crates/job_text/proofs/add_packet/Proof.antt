@@ -44,15 +44,16 @@ module _ (v : tie.After-packet-verdict) (path : List ℕ) (p : PathStands (v .be
 
 returns-3 : tie.Need-returns-3
 returns-3 c = λ path p. (
-    let v = c .before .before .before in
+    let v = c .before .before in
     let s = v .before .before .before .before .before .before .before .before .before .before .before .before .before .before in
-    packet-refused _ _ _ (s .pre .1) (s .pre .0) _ _ (sized (v .before .before .before .before) .0) (roomy v path p) (c .before .verdict .given .1) (judged v path p))
+    let d = c .enum-told2 .given .1 in
+    rw d (packet-refused _ _ _ (s .pre .1) (s .pre .0) _ _ (sized (v .before .before .before .before) .0) (roomy v path p) d (judged v path p)))
 
 returns-4 : tie.Need-returns-4
 returns-4 c = λ path p. (
-    let v = c .before .before .before in
+    let v = c .before .before in
     let s = v .before .before .before .before .before .before .before .before .before .before .before .before .before .before in
-    packet-added _ _ _ (s .pre .1) (s .pre .0) _ _ (sized (v .before .before .before .before) .0) (roomy v path p) p (c .before .enum-told .given .1) (judged v path p) (v .before .before .before .before .before .before .before .wide2 .ensures) (v .before .before .before .before .before .before .wide3 .ensures) (omega arith))
+    packet-added _ _ _ (s .pre .1) (s .pre .0) _ _ (sized (v .before .before .before .before) .0) (roomy v path p) p (c .enum-told .given .1) (judged v path p) (v .before .before .before .before .before .before .before .wide2 .ensures) (v .before .before .before .before .before .before .wide3 .ensures) (omega arith))
 
 pub add-packet-spec : {M : Type 1} → statement M
 add-packet-spec =
@@ -78,14 +79,12 @@ add-packet-spec =
     (λ c κs. search needs)
     (λ c. search needs)
     (λ c. search needs)
+    returns-3
     (λ c. search needs)
     slice-write-sources
     (λ c. search needs)
     (λ c. search needs)
     slice-write-stops
-    (λ c. search needs)
-    (λ c. search needs)
-    returns-3
     (λ c. search needs)
     (λ c. search needs)
     returns-4)

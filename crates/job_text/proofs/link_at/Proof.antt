@@ -29,10 +29,10 @@ returns-2 : tie.Need-returns-2
 returns-2 c = λ hops from. rw (c .bad-line2 .ensures) (found-bad (no-second (first (c .before .before .before)) (λ value end e. no-number (rw (c .before .before .field-behind2 .ensures ∙ e) at (c .before .match2 .keys2)))))
 
 returns-3 : tie.Need-returns-3
-returns-3 c = λ hops from. rw (c .bad-line3 .ensures) (found-bad (link-unfed (first (c .before .before .before .before .before .before .before)) (second (c .before .before .before)) (sym (c .before .before .fed-at .ensures) ∙ not-true _ (c .before .if1 .taken))))
+returns-3 c = λ hops from. rw (c .bad-line3 .ensures) (found-bad (link-unfed (first (c .before .before .before .before .before .before .before)) (second (c .before .before .before)) (sym (c .before .before .begins-at .ensures) ∙ not-true _ (c .before .if1 .taken))))
 
 returns-4 : tie.Need-returns-4
-returns-4 c = λ hops from. link-found (first (c .before .before .before .before .before .before)) (second (c .before .before)) (sym (c .before .fed-at .ensures) ∙ not-false _ (c .if1 .left))
+returns-4 c = λ hops from. link-found (first (c .before .before .before .before .before .before)) (second (c .before .before)) (sym (c .before .begins-at .ensures) ∙ not-false _ (c .if1 .left))
 
 pub link-at-spec : {M : Type 1} → statement M
 link-at-spec =

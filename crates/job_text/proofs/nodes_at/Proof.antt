@@ -23,10 +23,10 @@ returns : tie.Need-returns
 returns c = λ hops from. rw (c .bad-line .ensures) (found-bad (no-first _ _ _ (λ value end e. no-number (rw (c .before .before .field-behind .ensures ∙ e) at (c .before .match .keys2)))))
 
 returns-2 : tie.Need-returns-2
-returns-2 c = λ hops from. rw (c .bad-line2 .ensures) (found-bad (nodes-unfed (first (c .before .before .before)) (sym (c .before .before .fed-at .ensures) ∙ not-true _ (c .before .if1 .taken))))
+returns-2 c = λ hops from. rw (c .bad-line2 .ensures) (found-bad (nodes-unfed (first (c .before .before .before)) (sym (c .before .before .begins-at .ensures) ∙ not-true _ (c .before .if1 .taken))))
 
 returns-3 : tie.Need-returns-3
-returns-3 c = λ hops from. nodes-found (first (c .before .before)) (sym (c .before .fed-at .ensures) ∙ not-false _ (c .if1 .left))
+returns-3 c = λ hops from. nodes-found (first (c .before .before)) (sym (c .before .begins-at .ensures) ∙ not-false _ (c .if1 .left))
 
 pub nodes-at-spec : {M : Type 1} → statement M
 nodes-at-spec =

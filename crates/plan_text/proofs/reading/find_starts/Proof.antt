@@ -1,6 +1,4 @@
 -- `plan_text::reading::find_starts` meets its contract: the S lines, as many as packets, the T line, and what follows.
-use mathlib.Core.Path.{sym, _∙_}
-use Prim.Native.Nat.{ℕ}
 use denote.Ref.{now}
 use lib.ListN.{replicate}
 use Rattle.rules.specs.Sizes.{packetsMost}

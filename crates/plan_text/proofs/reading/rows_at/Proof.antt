@@ -6,8 +6,7 @@ use native.Mathlib.Omega.{arith}
 use borrow.Author.Needs.{needs}
 use denote.Ref.{now}
 use lib.ListN.{length, drop}
-use Rattle.rules.specs.Bytes.{letterS}
-use Rattle.rules.specs.PlanBack.{begins}
+use Rattle.rules.specs.Bytes.{letterS, begins}
 use Rattle.plan_text.specs.PlanLines.{lineAt}
 use Rattle.plan_text.specs.declared.reading.ThreeLine.the-variants.{Is}
 use Rattle.plan_text.proofs.RowsLeft.{Left, left-start, left-end, left-none, left-wrong, left-turn, left-forward, left-inside}
