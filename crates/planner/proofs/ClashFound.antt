@@ -16,7 +16,7 @@ use Rattle.counting.proofs.Sums.{sum-append}
 use Rattle.counting.proofs.Places.{at-getD, at-mem}
 use Rattle.rules.specs.Network.{pathsFrom}
 use Rattle.rules.specs.Travel.{oneStep}
-use Rattle.rules.specs.Claims.{linkClaims, Placed, place, taken}
+use Rattle.rules.specs.Claims.{linkClaims, Placed, place}
 use Rattle.rules.specs.Check.{holder, clashWith, clashAfter}
 use Rattle.theorems.proofs.Accepted.{length-paths-from}
 use Rattle.theorems.proofs.Clashes.{found-holder}

@@ -20,7 +20,7 @@ use Rattle.theorems.proofs.Accepted.{length-paths-from}
 use Rattle.theorems.proofs.HopsOnPaths.{mem-paths}
 use Rattle.marks.specs.Marks.{numbersMost}
 use Rattle.planner.specs.PacketsInLists.{SimplePaths, pathClaims, beginFrom, pathAt, before}
-use Rattle.planner.specs.Entries.{Below, OnLinks, stepsOn, entered, Parts, Searchable, FoundAmong, Rooms, RoomFor, Enterable, EntriesBefore}
+use Rattle.planner.specs.Entries.{Below, stepsOn, entered, Parts, Searchable, FoundAmong, Rooms, RoomFor, Enterable, EntriesBefore}
 use Rattle.planner.specs.Again.{stepsAt}
 use Rattle.planner.specs.EntriesAdded.{claimSteps, EntriesAdded}
 use Rattle.planner.proofs.PathParts.{part}
@@ -167,18 +167,11 @@ module _ (stops hops starts : List ℕ) (k s : ℕ) (l : k < length stops) (room
 
 -- ---- no packet yet
 
--- every hop is on one of the links
-pub hops-on-links : (stops hops : List ℕ) (simple : SimplePaths stops hops) → OnLinks (simple .links) hops
-hops-on-links stops hops simple = (
-  λ i m.
-      let (path, own, on-path) = mem-paths 0 stops hops (simple .agree) (at-mem hops i (at-getD hops i 0 m)) in
-      simple .simple path own .below _ on-path,
-  simple .links-few,
-)
-
--- and so on one that has a place
+-- every hop is on one of the links, and so on one that has a place
 pub hops-below : (stops hops : List ℕ) → SimplePaths stops hops → Below hops linksMost
-hops-below stops hops simple i m = let (below, few) = hops-on-links stops hops simple in omega (arith, below i m, few)
+hops-below stops hops simple i m =
+    let (path, own, on-path) = mem-paths 0 stops hops (simple .agree) (at-mem hops i (at-getD hops i 0 m)) in
+    omega (arith, simple .simple path own .below _ on-path, simple .links-few)
 
 -- there is room for all hops, and nobody has entered one
 pub entries-none : (stops hops starts firsts nexts steps : List ℕ) → length hops ≤ hopsMost → Rooms (λ link. occurs link hops) firsts (length hops)

@@ -1,23 +1,77 @@
--- Links' parts that are cut at their first repeat, one after the other, and the walk along the hops up to a cut.
+-- Links' parts that are cut at their first repeat, one after the other, and the walk along the hops up to a cut. Steps each of which is later
+-- than the one before it repeat none.
 use mathlib.Core.Path.{_≡_, refl, sym, _∙_}
-use mathlib.Core.Bool.{Bool, true, false, not}
-use mathlib.Core.List.{List}
+use mathlib.Core.Bool.{Bool, true, false, not, _&&_}
+use mathlib.Core.List.{List, [], _∷_}
 use mathlib.Core.Logic.{⊎-elim}
-use Prim.Native.Nat.{ℕ, _+_, _-_, _≤_, _<_}
+use Prim.Native.Nat.{ℕ, zero, suc, _+_, _-_, _≤_, _<_}
 use native.Mathlib.Decide.{decLt}
-use native.Mathlib.Nat.{eq-or-lt-of-le}
+use native.Mathlib.Nat.{eq-or-lt-of-le, not-suc-le-zero, le-of-suc-le-suc}
 use native.Mathlib.Numerals.{add-one}
 use native.Mathlib.Omega.{arith}
-use lib.Dec.{eqb}
+use lib.Dec.{eqb, ltb}
 use lib.ListN.{length, getD, take, drop, set, length-set, length-take, length-drop}
 use lib.Seq.{take-suc, getD-take, getD-drop, set-getD, getD-set-same, getD-set-other}
 use borrow.Author.Count.{below-none}
-use borrow.Author.Tests.{eqb-true, not-false}
-use Rattle.counting.specs.Count.{bit, occurs}
+use borrow.Author.Tests.{eqb-true, ne-eqb, ltb-true, lt-ltb, le-ltb, not-false}
+use Rattle.counting.specs.Count.{bit, among, occurs}
+use Rattle.counting.proofs.Tests.{and-left, and-right}
 use Rattle.counting.proofs.Sums.{sum-append}
-use Rattle.counting.proofs.Places.{one-more-at}
+use Rattle.counting.proofs.Places.{from-place, one-more-at}
 use Rattle.planner.specs.Entries.{stepsOn}
-use Rattle.planner.specs.Cuts.{FirstRepeat, Markable, Cuttable, Cut, SameParts, placeOf, FirstBeyond}
+use Rattle.planner.specs.Cuts.{FirstRepeat, eachLater, Markable, Cuttable, Cut, SameParts, placeOf, FirstBeyond}
+
+-- ---- steps each of which is later than the one before it
+
+-- two of them, and those after the first
+later-both : (step next : ℕ) (steps : List ℕ) → eachLater (step ∷ next ∷ steps) ≡ true → (step < next) × (eachLater (next ∷ steps) ≡ true)
+unfolding eachLater
+later-both step next steps h = (ltb-true step next (and-left (ltb step next) _ h), and-right (ltb step next) _ h)
+
+few-later : (steps : List ℕ) → length steps < 2 → eachLater steps ≡ true
+unfolding eachLater
+few-later [] few = refl
+few-later (step ∷ []) few = refl
+few-later (step ∷ next ∷ steps) few = absurd (omega arith)
+
+-- whether they are, from the one before a place on
+module _ (steps : List ℕ) (at : ℕ) (after : 0 < at) where
+  module _ (more : at < length steps) where
+    later-turn : eachLater (drop (at - 1) steps) ≡ (ltb (getD steps (at - 1) 0) (getD steps at 0) && eachLater (drop at steps))
+    unfolding eachLater
+    later-turn = let here : at - 1 + 1 ≡ at = omega arith in rw (from-place steps (at - 1) (omega arith), here, from-place steps at)
+
+    pub later-fails : getD steps at 0 ≤ getD steps (at - 1) 0 → eachLater (drop (at - 1) steps) ≡ false
+    later-fails l = rw (later-turn, le-ltb (getD steps (at - 1) 0) (getD steps at 0))
+
+    pub later-on : getD steps (at - 1) 0 < getD steps at 0 → eachLater (drop (at - 1) steps) ≡ eachLater (drop (at + 1 - 1) steps)
+    later-on l = let next : at + 1 - 1 ≡ at = omega arith in rw (later-turn, lt-ltb (getD steps (at - 1) 0) (getD steps at 0), next)
+
+  pub later-done : length steps ≤ at → eachLater (drop (at - 1) steps) ≡ true
+  later-done end = few-later (drop (at - 1) steps) (omega (arith, length-drop (at - 1) steps))
+
+-- the first is before all others
+after-first : (first : ℕ) (steps : List ℕ) → eachLater (first ∷ steps) ≡ true → (i : ℕ) → i < length steps → first < getD steps i 0
+after-first first [] h i l = absurd (not-suc-le-zero l)
+after-first first (next ∷ steps) h zero l = later-both first next steps h .0
+after-first first (next ∷ steps) h (suc i) l =
+    let (before, rest) = later-both first next steps h in
+    omega (arith, before, after-first next steps rest i (le-of-suc-le-suc l))
+
+later-rest : (first : ℕ) (steps : List ℕ) → eachLater (first ∷ steps) ≡ true → eachLater steps ≡ true
+later-rest first [] h = few-later [] (omega arith)
+later-rest first (next ∷ steps) h = later-both first next steps h .1
+
+later-new : (steps : List ℕ) → eachLater steps ≡ true → (i : ℕ) → i < length steps → among (getD steps i 0) (take i steps) ≡ false
+later-new [] h i l = absurd (not-suc-le-zero l)
+later-new (first ∷ steps) h zero l = refl
+later-new (first ∷ steps) h (suc i) l =
+    let more = le-of-suc-le-suc l in
+    rw (ne-eqb first (getD steps i 0) (omega (arith, after-first first steps h i more))) (later-new steps (later-rest first steps h) i more)
+
+-- so none repeats one before it
+later-never-repeats : (steps : List ℕ) → eachLater steps ≡ true → FirstRepeat steps (length steps)
+later-never-repeats steps h = record { within = omega arith; here = λ l. absurd (omega arith); earlier = later-new steps h }
 
 -- ---- one part
 
@@ -42,13 +96,9 @@ module _ (steps : List ℕ) (from to : ℕ) (rises : from ≤ to) (within : to �
   pub cut-within : (r : ℕ) → FirstRepeat part r → from + r ≤ to
   cut-within r first = omega (arith, first .within, part-length)
 
-  -- and not at all where it has one entry at most
-  pub cut-nowhere : to - from < 2 → FirstRepeat part (to - from)
-  cut-nowhere few = record {
-    within = omega (arith, part-length);
-    here = λ l. absurd (omega (arith, part-length));
-    earlier = λ i l. let first : i ≡ 0 = omega arith in rw first;
-  }
+  -- and not at all where each of its entries is later than the one before it
+  pub cut-nowhere : eachLater part ≡ true → FirstRepeat part (to - from)
+  cut-nowhere h = rw part-length at (later-never-repeats part h)
 
 -- ---- all parts, before that of the link is cut
 
@@ -87,9 +137,11 @@ module _ {firsts before steps nexts : List ℕ} {link : ℕ} (w : CutTo firsts b
     unfolding stepsOn
     past-cut i ahead =
         let parts = can .parts in
-        let none : getD before i 0 - getD firsts i 0 < 2 = omega (arith, can .others i (omega arith)) in (
+        let from = getD firsts i 0 in
+        let to = getD before i 0 in
+        let none : length (take (to - from) (drop from steps)) < 2 = omega (arith, can .others i (omega arith), length-take (to - from) (drop from steps)) in (
           omega (arith, parts .rises i, w .ahead i ahead),
-          rw (w .ahead i ahead) (cut-nowhere steps (getD firsts i 0) (getD before i 0) (parts .rises i) (parts .within i) none),
+          rw (w .ahead i ahead) (cut-nowhere steps from to (parts .rises i) (parts .within i) (few-later _ none)),
         )
 
     each-cut : (i : ℕ) → CutOf firsts before steps nexts i

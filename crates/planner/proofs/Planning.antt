@@ -21,18 +21,12 @@ use Rattle.job.specs.declared.Verdict.the-variants.{Fine, Refused}
 use Rattle.job.specs.Told.{refusalOf, verdictOf}
 use Rattle.job.proofs.AfterVerdict.{after-refusal, after-fine}
 use Rattle.planner.specs.PacketsInLists.{SimplePaths, greedyStarts}
-use Rattle.planner.specs.Entries.{OnLinks}
 use Rattle.planner.specs.Told.{PlannedAs}
-use Rattle.planner.proofs.EntriesKept.{hops-on-links}
 use Rattle.planner.proofs.Filling.{length-greedy-starts}
 
-unfoldable pub job-listed : (j : Job) → IsJob j → SimplePaths (j .stops) (j .hops)
+pub job-listed : (j : Job) → IsJob j → SimplePaths (j .stops) (j .hops)
 unfolding paths
 job-listed j h = record { agree = job-stops-agree j h; few = h .hops-most; links = linkCount j; links-few = h .links-most; simple = packets-simple j h }
-
-pub job-on-links : (j : Job) → IsJob j → OnLinks (linkCount j) (j .hops)
-unfolding job-listed
-job-on-links j h = hops-on-links (j .stops) (j .hops) (job-listed j h)
 
 pub greedy-of-lists : (j : Job) → IsJob j → greedyStarts (j .stops) (j .hops) ≡ greedy j
 unfolding greedyStarts greedy paths delayOf

@@ -9,10 +9,11 @@ use native.Mathlib.Numerals.{add-one}
 use native.Mathlib.Omega.{arith, by-contra}
 use lib.ListN.{length, getD, set, take, drop, length-set, drop-of-length-le}
 use lib.Seq.{getD-set-same, getD-set-other, take-all, take-take}
+use borrow.Author.Tests.{eq-eqb}
 use Rattle.counting.specs.Count.{occurs}
 use Rattle.counting.proofs.Sums.{sum-take-le}
 use Rattle.counting.proofs.Places.{from-place, one-more-at}
-use Rattle.planner.specs.Entries.{Rooms, total}
+use Rattle.planner.specs.Entries.{Below, Rooms, total}
 
 -- ---- the sum of a list, and of its front
 
@@ -87,6 +88,7 @@ begun-turn {places = places} {link = link} {place = place} w l e = record {
 -- the place is where the room of the link is to begin; what stood in nexts is the loads, and in firsts nothing
 pub record Opened (hops : ℕ) (loads firsts nexts : List ℕ) (link place : ℕ) : Type 0 where
   pub whole : total loads ≡ hops
+  pub near : link ≤ length loads
   pub here : place ≡ total (take link loads)
   pub first : Begun loads (λ i. 0) firsts link
   pub next : Begun loads (λ i. getD loads i 0) nexts link
@@ -95,6 +97,7 @@ pub opened-start : {hops : ℕ} {loads firsts : List ℕ} → total loads ≡ ho
     → Opened hops loads firsts loads 0 0
 opened-start e l z = record {
   whole = e;
+  near = omega arith;
   here = refl;
   first = record { long = l; begun = λ i h. absurd (not-suc-le-zero h); ahead = λ i h. z i };
   next = record { long = refl; begun = λ i h. absurd (not-suc-le-zero h); ahead = λ i h. refl };
@@ -114,6 +117,7 @@ module _ {hops link place : ℕ} {loads firsts nexts : List ℕ} (w : Opened hop
   pub opened-turn : link < length loads → Opened hops loads (set firsts link place) (set nexts link place) (link + 1) (place + getD nexts link 0)
   opened-turn l = record {
     whole = w .whole;
+    near = omega arith;
     here = rw add-one after-load;
     first = begun-turn (w .first) l (w .here);
     next = begun-turn (w .next) l (w .here);
@@ -121,7 +125,7 @@ module _ {hops link place : ℕ} {loads firsts nexts : List ℕ} (w : Opened hop
 
   module _ (full : hops ≤ place) where
     -- where all have theirs, no link that is left has a load
-    no-load-ahead : (i : ℕ) → link ≤ i → getD loads i 0 ≡ 0
+    pub no-load-ahead : (i : ℕ) → link ≤ i → getD loads i 0 ≡ 0
     no-load-ahead i h = omega (arith, total-front-mono loads link i h, total-front-suc loads i, sum-take-le (λ x. x) (suc i) loads)
 
     room-within : (i : ℕ) → getD firsts i 0 + getD loads i 0 ≤ hops
@@ -151,11 +155,25 @@ module _ {hops link place : ℕ} {loads firsts nexts : List ℕ} (w : Opened hop
 
 -- ---- rooms for the hops that were counted
 
-pub rooms-for-hops : (hops before loads : List ℕ) {firsts : List ℕ} → ((link : ℕ) → getD before link 0 ≡ 0) → ((link : ℕ) → getD loads link 0 ≡ getD before link 0 + occurs link hops)
-    → Rooms (λ link. getD loads link 0) firsts (length hops) → Rooms (λ link. occurs link hops) firsts (length hops)
-rooms-for-hops hops before loads none counted opened =
-    let load : (link : ℕ) → getD loads link 0 ≡ occurs link hops = λ link. omega (arith, none link, counted link) in
-    record {
-      within = λ link. omega (arith, opened .within link, load link);
-      apart = λ link other differ. rw (← load link, ← load other) (opened .apart link other differ);
-    }
+-- the link of a hop stands among the hops
+occurs-at : (hops : List ℕ) (i : ℕ) → i < length hops → 0 < occurs (getD hops i 0) hops
+occurs-at [] i h = absurd (not-suc-le-zero h)
+occurs-at (link ∷ hops) zero h = rw (eq-eqb link link refl) (omega arith)
+occurs-at (link ∷ hops) (suc i) h = omega (arith, occurs-at hops i (le-of-suc-le-suc h))
+
+module _ (hops before loads : List ℕ) (none : (link : ℕ) → getD before link 0 ≡ 0)
+    (counted : (link : ℕ) → getD loads link 0 ≡ getD before link 0 + occurs link hops) where
+  load : (link : ℕ) → getD loads link 0 ≡ occurs link hops
+  load link = omega (arith, none link, counted link)
+
+  pub rooms-for-hops : {firsts : List ℕ} → Rooms (λ link. getD loads link 0) firsts (length hops) → Rooms (λ link. occurs link hops) firsts (length hops)
+  rooms-for-hops opened = record {
+    within = λ link. omega (arith, opened .within link, load link);
+    apart = λ link other differ. rw (← load link, ← load other) (opened .apart link other differ);
+  }
+
+  -- where no link has a load from some number on, every hop is on one below it
+  pub hops-below-room : (links : ℕ) → ((link : ℕ) → links ≤ link → getD loads link 0 ≡ 0) → Below hops links
+  hops-below-room links ahead i h =
+      let link = getD hops i 0 in
+      by-contra (suc link) links (λ past. omega (arith, load link, ahead link (omega arith), occurs-at hops i h))

@@ -1,10 +1,10 @@
 -- How the first hop is found that enters its link in a step again: each link's part is cut at its first entry that repeats one before it,
 -- and, if one was cut, the hops are walked until the entry of one stands at its link's cut.
 use mathlib.Core.Path.{_≡_}
-use mathlib.Core.Bool.{true, false}
-use mathlib.Core.List.{List}
+use mathlib.Core.Bool.{Bool, true, false, _&&_}
+use mathlib.Core.List.{List, [], _∷_}
 use Prim.Native.Nat.{ℕ, _+_, _-_, _*_, _/_, _≤_, _<_}
-use lib.Dec.{eqb}
+use lib.Dec.{eqb, ltb}
 use lib.ListN.{length, getD, take}
 use Rattle.counting.specs.Count.{anyOf, among, occurs}
 use Rattle.marks.specs.Marks.{unmarked}
@@ -15,6 +15,12 @@ pub record FirstRepeat (steps : List ℕ) (r : ℕ) : Type 0 where
   pub within : r ≤ length steps
   pub here : r < length steps → among (getD steps r 0) (take r steps) ≡ true
   pub earlier : (i : ℕ) → i < r → among (getD steps i 0) (take i steps) ≡ false
+
+-- whether each step is later than the one before it
+unfoldable pub eachLater : List ℕ → Bool
+eachLater [] = true
+eachLater (step ∷ []) = true
+eachLater (step ∷ next ∷ steps) = ltb step next && eachLater (next ∷ steps)
 
 -- a word in which none of the steps falls is 0
 abbrev pub MarksWithin : (steps words : List ℕ) → Type 0

@@ -30,12 +30,14 @@ fn count(hops: &[u16], loads: &mut [u16])
 }
 
 // Opens a room for each link, as large as its load, one after the other until all entries to come have their place. At the call nexts has
-// the loads, and firsts is 0 throughout; nobody has entered a room yet.
-fn open(places: usize, firsts: &mut [u16], nexts: &mut [u16])
+// the loads, and firsts is 0 throughout; nobody has entered a room yet. The answer is how many links have one: none
+// from there on has a load.
+fn open(places: usize, firsts: &mut [u16], nexts: &mut [u16]) -> usize
     requires { ⌜ (total (now nexts) ≡ places) × (places ≤ widest) × (length (now firsts) ≡ length (now nexts))
         × ((link : ℕ) → getD (now firsts) link 0 ≡ 0) ⌝ }
     ensures { λ _. ⌜ Rooms (λ link. getD (given nexts) link 0) (left firsts) places ⌝ }
     ensures empty { λ _. ⌜ ((link : ℕ) → getD (left nexts) link 0 ≡ getD (left firsts) link 0) ⌝ }
+    ensures links { λ r. ⌜ (r ≤ length (given nexts)) × ((link : ℕ) → r ≤ link → getD (given nexts) link 0 ≡ 0) ⌝ }
 {
     let mut link = 0;
     let mut place: u16 = 0;
@@ -46,18 +48,20 @@ fn open(places: usize, firsts: &mut [u16], nexts: &mut [u16])
         place += load;
         link += 1;
     }
+    link
 }
 
 // Makes room for the entries of all hops: of each link, as often as it stands among them. At the call both lists are 0 throughout; nobody
-// has entered a room yet.
-pub(crate) fn make_room(hops: &[u16], firsts: &mut [u16], nexts: &mut [u16])
+// has entered a room yet. The answer is how many links have one: every hop is on one of them.
+pub(crate) fn make_room(hops: &[u16], firsts: &mut [u16], nexts: &mut [u16]) -> usize
     requires { ⌜ Below (now hops) (length (now nexts)) × (length (now hops) ≤ widest) × (length (now firsts) ≡ length (now nexts))
         × ((link : ℕ) → getD (now firsts) link 0 ≡ 0) × ((link : ℕ) → getD (now nexts) link 0 ≡ 0) ⌝ }
     ensures { λ _. ⌜ Rooms (λ link. occurs link (given hops)) (left firsts) (length (given hops)) ⌝ }
     ensures empty { λ _. ⌜ ((link : ℕ) → getD (left nexts) link 0 ≡ getD (left firsts) link 0) ⌝ }
+    ensures links { λ r. ⌜ Below (given hops) r × (r ≤ length (given nexts)) ⌝ }
 {
     count(hops, &mut nexts[..]);
-    open(hops.len(), firsts, nexts);
+    open(hops.len(), firsts, nexts)
 }
 
 // How long after its start a packet enters the link that comes after this one.

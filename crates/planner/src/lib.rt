@@ -283,15 +283,15 @@ fn conflict_among(
 }
 
 // The same, with rooms of its own.
-fn first_conflict(links: usize, stops: &[u16], hops: &[u16], starts: &[u16]) -> usize
-    requires { ⌜ SimplePaths (now stops) (now hops) × (length (now starts) ≡ length (now stops)) × InTime (now starts) × OnLinks links (now hops) ⌝ }
+fn first_conflict(stops: &[u16], hops: &[u16], starts: &[u16]) -> usize
+    requires { ⌜ SimplePaths (now stops) (now hops) × (length (now starts) ≡ length (now stops)) × InTime (now starts) ⌝ }
     ensures { λ r. ⌜ FirstAgain (given hops) (allSteps (packets (given stops) (given hops) (given starts))) r ⌝ }
 {
     let mut firsts = [0u16; Job::LINKS];
     let mut nexts = [0u16; Job::LINKS];
     let mut steps = [0u16; Job::HOPS];
     let mut words = [0u64; STEP_WORDS];
-    make_room(hops, &mut firsts[..], &mut nexts[..]);
+    let links = make_room(hops, &mut firsts[..], &mut nexts[..]);
     conflict_among(
         links,
         stops,
@@ -305,12 +305,12 @@ fn first_conflict(links: usize, stops: &[u16], hops: &[u16], starts: &[u16]) -> 
 }
 
 // The clash of the lowest packet that conflicts with one listed before it.
-fn first_clash(links: usize, stops: &[u16], hops: &[u16], starts: &[u16]) -> Checked
+fn first_clash(stops: &[u16], hops: &[u16], starts: &[u16]) -> Checked
     requires { ⌜ SimplePaths (now stops) (now hops) × (length (now starts) ≡ length (now stops)) × (length (now stops) ≤ packetsMost)
-        × InTime (now starts) × OnLinks links (now hops) ⌝ }
+        × InTime (now starts) ⌝ }
     ensures { λ r. ⌜ checkedOf r ≡ is (clashAfter [] (packets (given stops) (given hops) (given starts))) ⌝ }
 {
-    let hop = first_conflict(links, stops, hops, starts);
+    let hop = first_conflict(stops, hops, starts);
     if hop == hops.len() {
         return Checked::Clear;
     }
@@ -359,7 +359,7 @@ pub fn check(
     if let Verdict::Refused(refusal) = verdict {
         return Checked::Refused(refusal);
     }
-    first_clash(origins.len(), stops, hops, starts)
+    first_clash(stops, hops, starts)
 }
 
 pub enum Led {

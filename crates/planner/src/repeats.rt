@@ -1,5 +1,5 @@
-// Entries that repeat one before them: each link's steps are marked one by one, and the marks wiped; where a step was marked already, the
-// hops are walked, in list order.
+// Entries that repeat one before them: each link's steps are compared with the one before and, unless each is later, marked one by one, and
+// the marks wiped; where a step was marked already, the hops are walked, in list order.
 ghost use mathlib.Core.Path.{_≡_};
 ghost use mathlib.Core.Bool.{false};
 ghost use mathlib.Core.List.{List};
@@ -9,7 +9,7 @@ ghost use Rattle.rules.specs.Handed.{given, left};
 ghost use Rattle.marks.specs.Marks.{unmarked};
 ghost use Rattle.planner.specs.Entries.{Below};
 ghost use Rattle.planner.specs.Again.{FirstAgain, InOrder};
-ghost use Rattle.planner.specs.Cuts.{FirstRepeat, MarksWithin, Markable, Cuttable, Cut, SameParts, Walkable, FirstBeyond};
+ghost use Rattle.planner.specs.Cuts.{FirstRepeat, eachLater, MarksWithin, Markable, Cuttable, Cut, SameParts, Walkable, FirstBeyond};
 use job::wide;
 
 // Marks the steps up to the first that is marked already, since it stands among those before it: its place, or the number of steps. A word
@@ -60,16 +60,32 @@ fn first_repeat(steps: &[u16], words: &mut [u64]) -> usize
     repeat
 }
 
-// Where a link's part is to end: at its first entry that repeats one before it, if one does. Of fewer than two none does.
+// Whether each step is later than the one before it, so that none repeats another.
+fn each_later(steps: &[u16]) -> bool
+    ensures { λ r. ⌜ r ≡ eachLater (given steps) ⌝ }
+{
+    let mut at = 1;
+    while at < steps.len() {
+        if steps[at] <= steps[at - 1] {
+            return false;
+        }
+        at += 1;
+    }
+    true
+}
+
+// Where a link's part is to end: at its first entry that repeats one before it, if one does. Where each is later than the one before it, as
+// with packets that follow one another along a path, none does, and no mark is needed.
 fn cut(from: u16, to: u16, steps: &[u16], words: &mut [u64]) -> u16
     requires { ⌜ (from ≤ to) × (to ≤ length (now steps)) × Markable (now steps) (now words) ⌝ }
     ensures { λ r. ⌜ (from ≤ r) × FirstRepeat (take (to - from) (drop from (given steps))) (r - from) ⌝ }
     ensures clear { λ _. ⌜ left words ≡ given words ⌝ }
 {
-    if to - from < 2 {
+    let part = &steps[wide(from)..wide(to)];
+    if each_later(part) {
         to
     } else {
-        from + first_repeat(&steps[wide(from)..wide(to)], words) as u16
+        from + first_repeat(part, words) as u16
     }
 }
 

@@ -18,7 +18,7 @@ start-each-requires c κs =
     let m = c .before .before .before .before .before .before .before in
     let s = m .before .before .before .before .before .before in
     let r = m .make-room in
-    (s .pre .0, s .pre .1, entries-none _ _ _ _ _ _ (s .pre .0 .few) (r .ensures .0) (r .ensures .1) (r .kept .1 .0) (r .kept .1 .1 .0) refl, omega arith)
+    (s .pre .0, s .pre .1, entries-none _ _ _ _ _ _ (s .pre .0 .few) (r .ensures .0) (r .ensures .1 .0) (r .kept .1 .0) (r .kept .1 .1 .0) refl, omega arith)
 
 pub fill-spec : {M : Type 1} → statement M
 fill-spec =

@@ -23,8 +23,8 @@ conflict-among-requires c κs =
       s .pre .0,
       s .pre .1,
       s .pre .2,
-      entries-none _ _ _ _ _ _ (s .pre .0 .few) (r .ensures .0) (r .ensures .1) (r .kept .1 .0) (r .kept .1 .1 .0) refl,
-      s .pre .3,
+      entries-none _ _ _ _ _ _ (s .pre .0 .few) (r .ensures .0) (r .ensures .1 .0) (r .kept .1 .0) (r .kept .1 .1 .0) refl,
+      r .ensures .1 .1,
       omega arith,
       refl,
     )

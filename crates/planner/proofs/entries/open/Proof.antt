@@ -4,7 +4,7 @@ use Prim.Native.Nat.{_-_, _<_}
 use native.Mathlib.Omega.{arith}
 use borrow.Author.Needs.{needs}
 use lib.ListN.{length}
-use Rattle.planner.proofs.RoomsOpened.{Opened, opened-start, opened-below, opened-fits, opened-turn, opened-rooms, opened-empty}
+use Rattle.planner.proofs.RoomsOpened.{Opened, opened-start, opened-below, opened-fits, opened-turn, no-load-ahead, opened-rooms, opened-empty}
 use Rattle.planner.proofs.entries.open.Statement.{statement}
 use Rattle.planner.proofs.entries.open.Tie as tie
 
@@ -52,7 +52,9 @@ loop-again : tie.Need-loop-again Inv-loop μ-loop
 loop-again c = opened-turn (c .before .before .before .loop .inv) (link-exists (c .before))
 
 returns : tie.Need-returns Inv-loop μ-loop
-returns c = let w = c .before .before .loop .inv in (opened-rooms w (omega arith), opened-empty w (omega arith))
+returns c =
+    let w = c .before .before .loop .inv in
+    (opened-rooms w (omega arith), (opened-empty w (omega arith), (w .near, no-load-ahead w (omega arith))))
 
 pub open-spec : {M : Type 1} → statement M
 open-spec =
