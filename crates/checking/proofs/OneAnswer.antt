@@ -1,7 +1,6 @@
 -- What the code answers on two texts is fixed by what they come to.
 use mathlib.Core.Path.{_≡_, refl, sym, ap, _∙_}
 use mathlib.Core.Option.{none, some}
-use Prim.Native.Nat.{ℕ}
 use Rattle.rules.specs.CheckedTexts.{TextsChecked, found, job-refused, plan-refused}
 use Rattle.job.proofs.OneAnswer.{numbered, numbered-refusal}
 use Rattle.checking.specs.declared.Texts.{Texts}

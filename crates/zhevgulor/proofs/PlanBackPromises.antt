@@ -1,7 +1,7 @@
 -- What the rules' answers on a plan's text come to in plain words, and that the plain words leave no other answer.
 use mathlib.Core.Path.{_≡_, refl, sym, _∙_}
 use mathlib.Core.Bool.{Bool, true, false}
-use mathlib.Core.List.{List, [], _∷_}
+use mathlib.Core.List.{List, []}
 use mathlib.Core.Option.{none, some}
 use Prim.Native.Nat.{ℕ}
 use native.Mathlib.Omega.{arith}
@@ -11,7 +11,6 @@ use borrow.Author.Tests.{le-leb, lt-leb, leb-true, leb-false}
 use Rattle.rules.specs.Network.{Job}
 use Rattle.rules.specs.Outcome.{Outcome, is, refused, must, _then_, onward}
 use Rattle.rules.specs.Check.{Clash}
-use Rattle.rules.specs.JobText.{reading}
 use Rattle.rules.specs.PlanBack.{readBack}
 use Rattle.rules.specs.Answers.{inRoom, lentAfter, planReadIn}
 use Rattle.rules.specs.CheckedTexts.{TextsChecked, found, job-refused, plan-refused, checkedTexts}
@@ -22,7 +21,7 @@ use Rattle.theorems.proofs.PlanBackExact.{read-back-exactly}
 use Rattle.theorems.proofs.CheckedTextsMean.{texts-job-refused-iff, texts-plan-refused-iff, texts-found-iff, texts-read-iff, texts-clear-iff, texts-clash-shown}
 use Rattle.zhevgulor.specs.declared.Answer.{Answer}
 use Rattle.zhevgulor.specs.declared.TextsAnswer.{TextsAnswer}
-use Rattle.zhevgulor.specs.Told.{answerFor, LentAs, clashNumbers, aboutText, clashIn, refusedText, TextsFor}
+use Rattle.zhevgulor.specs.Told.{answerFor, LentAs, clashNumbers, aboutText, TextsFor}
 use Rattle.zhevgulor.specs.Promise.{ShownOf}
 use Rattle.zhevgulor.specs.PlanBackPromise.{PlanSays, ReadPlanPromise, told-starts, too-few-places, no-plan, CheckTextsPromise, texts-clear, texts-clash, texts-no-place, texts-no-job, texts-no-plan}
 use Rattle.zhevgulor.proofs.Promises.{says-reading, reading-says, shown-found}

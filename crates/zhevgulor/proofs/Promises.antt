@@ -1,15 +1,15 @@
 -- What the rules' answers come to in plain words: an answer that meets `LentAs` keeps the promise.
 use mathlib.Core.Path.{_≡_, refl, sym, ap, _∙_}
 use mathlib.Core.Bool.{Bool, true, false}
-use mathlib.Core.List.{List, [], _∷_, _++_}
+use mathlib.Core.List.{List, _++_}
 use mathlib.Core.Option.{Option, none, some}
 use Prim.Native.Nat.{ℕ}
 use native.Mathlib.Omega.{arith}
 use lib.Dec.{leb}
-use lib.ListN.{length, take, drop}
+use lib.ListN.{length, take}
 use borrow.Author.Tests.{le-leb, lt-leb, leb-true, leb-false}
 use Rattle.rules.specs.Network.{Job, packets}
-use Rattle.rules.specs.Outcome.{Outcome, is, refused, Verdict, fine, must, _then_, onward}
+use Rattle.rules.specs.Outcome.{Outcome, is, refused, Verdict, must, _then_, onward}
 use Rattle.rules.specs.Check.{Clash as Found}
 use Rattle.rules.specs.Greedy.{greedy}
 use Rattle.rules.specs.JobText.{reading}

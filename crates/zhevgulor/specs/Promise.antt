@@ -2,7 +2,7 @@
 -- stands in Jobs, its text in JobWritten, what starts and clashes are in Plain, the bounds in Demands, a plan's text in PlanText; which
 -- refusal a text, lists or starts get in JobText, Tables and Answers. Nothing here says how an answer is found.
 use mathlib.Core.Path.{_≡_}
-use mathlib.Core.List.{List, [], _∷_, _++_}
+use mathlib.Core.List.{List, _∷_, _++_}
 use Prim.Native.Nat.{ℕ, _≤_, _<_}
 use lib.ListN.{length, take, drop}
 use Rattle.rules.specs.Sizes.{textMost}

@@ -1,7 +1,7 @@
 -- `checking::print` meets its contract: the word, the clash's line, or the refusal's with the letter of its text.
 use native.Mathlib.Omega.{arith}
 use borrow.Author.Needs.{needs}
-use Rattle.answer.proofs.Printing.{put-printed, printed-fits}
+use Rattle.answer.proofs.Printing.{put-printed}
 use Rattle.checking.proofs.Printing.{prints}
 use Rattle.checking.proofs.print.Statement.{statement}
 use Rattle.checking.proofs.print.Tie as tie

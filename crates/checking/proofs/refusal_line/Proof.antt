@@ -1,5 +1,4 @@
 -- `checking::refusal_line` meets its contract: a letter, the number and the place.
-use mathlib.Core.Path.{refl}
 use native.Mathlib.Omega.{arith}
 use borrow.Author.Needs.{needs}
 use Rattle.answer.proofs.Printing.{put-printed}
