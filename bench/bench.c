@@ -2,6 +2,7 @@
  *
  * Each job is planned and checked by both in turn, several times; the median time of each is taken, and their ratio is what is shown.
  * Neither side's buffers are cleared between two calls: fast.c overwrites its own, the planner clears its own in every call.
+ * Then each of the C functions is timed, and what a call took on the job on which it took longest is told.
  * The planner's time from text to text is told by parts:
  *     read     zhevgulor_plan of the job with a last line of bad form, which is refused when everything above it was read; the tables are
  *              looked at there, line by line, and not again
@@ -275,7 +276,35 @@ static void run_fast_check(void)
     fast_check(&job, starts, packet_count, clash, ZHEVGULOR_CLASH);
 }
 
-enum { PLAN, READ, TABLES, STARTS, TEXT, CHECK, FAST, FAST_READ, FAST_SEARCH, FAST_WRITE, FAST_CHECK, TIMED };
+/* The archive is for x86-64, where an answer of 24 bytes goes to where a pointer in front of the arguments leads. Compiled for another
+ * processor it is handed over in that way too, and not in that of the processor's own C. */
+static zhevgulor_read_answer counted;
+#ifdef __x86_64__
+#define READ(...) counted = zhevgulor_read(__VA_ARGS__)
+#else
+void *read_by_pointer(zhevgulor_read_answer *, const uint8_t *, size_t, uint16_t *, size_t, uint16_t *, size_t, uint16_t *, size_t,
+                      uint16_t *, size_t, uint16_t *, size_t) __asm__("zhevgulor_read");
+#define READ(...) read_by_pointer(&counted, __VA_ARGS__)
+#endif
+
+static struct {
+    uint16_t origins[ZHEVGULOR_LINKS], ends[ZHEVGULOR_LINKS], sources[ZHEVGULOR_PACKETS], stops[ZHEVGULOR_PACKETS], hops[ZHEVGULOR_HOPS],
+        starts[ZHEVGULOR_PACKETS];
+} back; /* what was read back */
+static size_t plan_bytes;
+static uint16_t last_packet;
+static zhevgulor_texts_answer texts;
+
+static void run_lists(void)
+{
+    READ(text, bytes, back.origins, ZHEVGULOR_LINKS, back.ends, ZHEVGULOR_LINKS, back.sources, ZHEVGULOR_PACKETS, back.stops,
+         ZHEVGULOR_PACKETS, back.hops, ZHEVGULOR_HOPS);
+}
+static void run_lead(void) { zhevgulor_lead(LISTS, starts, packet_count, 0, last_packet, hops[0]); }
+static void run_read_plan(void) { zhevgulor_read_plan(LISTS, plan, plan_bytes, back.starts, ZHEVGULOR_PACKETS); }
+static void run_texts(void) { texts = zhevgulor_check_texts(text, bytes, plan, plan_bytes, clash, ZHEVGULOR_CLASH); }
+
+enum { PLAN, READING, TABLES, STARTS, TEXT, CHECK, FAST, FAST_READ, FAST_SEARCH, FAST_WRITE, FAST_CHECK, TIMED };
 static void (*const timed[TIMED])(void) = { run_plan, run_read, run_tables, run_starts, run_text, run_check, run_fast, run_fast_read,
                                             run_fast_search, run_fast_write, run_fast_check };
 
@@ -292,6 +321,17 @@ static int by_size(const void *a, const void *b)
     return x < y ? -1 : x > y;
 }
 
+/* Microseconds of a call, which is repeated until two milliseconds are over. */
+static double time_of(void (*run)(void))
+{
+    double begun = now();
+    int calls = 0;
+    do
+        run(), calls++;
+    while (now() - begun < 2000);
+    return (now() - begun) / calls;
+}
+
 /* The parts: those of the planner, and those of fast.c. */
 enum { READ_PART, SEARCH_PART, WRITE_PART, PARTS };
 static const char *const part_name[PARTS] = { "read", "search", "write" };
@@ -300,15 +340,17 @@ typedef struct {
     double plan, fast, part[PARTS], fast_part[PARTS], check, fast_check;
 } times;
 
+/* What one takes over another that is a part of it. */
+static double over(double whole, double part) { return whole > part ? whole - part : 0; }
+
 static times parts_of(const double *t)
 {
-    return (times){ t[PLAN], t[FAST], { t[READ], t[STARTS] - t[TABLES], t[TEXT] - t[TABLES] },
-                    { t[FAST_READ], t[FAST_SEARCH] - t[FAST_READ], t[FAST_WRITE] }, t[CHECK], t[FAST_CHECK] };
+    return (times){ t[PLAN], t[FAST], { t[READING], over(t[STARTS], t[TABLES]), over(t[TEXT], t[TABLES]) },
+                    { t[FAST_READ], over(t[FAST_SEARCH], t[FAST_READ]), t[FAST_WRITE] }, t[CHECK], t[FAST_CHECK] };
 }
 
-/* Microseconds of each, as medians of rounds. In a round each is run in turn, and a run repeats a call until it has taken two
- * milliseconds. A part that is a difference is taken within a round, so that a processor that changes its speed from round to round
- * does no harm. Where one round takes seconds there are fewer. */
+/* Microseconds of each, as medians of rounds. In a round each is run in turn. A part that is a difference is taken within a round, so that
+ * a processor that changes its speed from round to round does no harm. Where one round takes seconds there are fewer. */
 enum { ROUNDS = 31, ENOUGH = 20000000, NUMBERS = sizeof(times) / sizeof(double) };
 
 static times measure(void)
@@ -318,14 +360,8 @@ static times measure(void)
     int rounds = 0;
     for (; rounds < ROUNDS && (rounds < 1 || now() - first < ENOUGH); rounds++) {
         double t[TIMED];
-        for (int f = 0; f < TIMED; f++) {
-            double begun = now();
-            int calls = 0;
-            do
-                timed[f](), calls++;
-            while (now() - begun < 2000);
-            t[f] = (now() - begun) / calls;
-        }
+        for (int f = 0; f < TIMED; f++)
+            t[f] = time_of(timed[f]);
         times round = parts_of(t);
         for (int i = 0; i < NUMBERS; i++)
             took[i][rounds] = ((const double *)&round)[i];
@@ -377,6 +413,20 @@ static void agree_on_texts(const char *name)
     }
 }
 
+/* What is read back must be what was written. */
+static void agree_on_reading(const char *name)
+{
+    run_lists(), run_read_plan(), run_texts();
+    if (counted.refusal || counted.nodes != nodes || counted.links != link_count || counted.packets != packet_count ||
+        counted.hops != hop_count || memcmp(back.origins, origins, 2 * link_count) != 0 || memcmp(back.ends, ends, 2 * link_count) != 0 ||
+        memcmp(back.sources, sources, 2 * packet_count) != 0 || memcmp(back.stops, stops, 2 * packet_count) != 0 ||
+        memcmp(back.hops, hops, 2 * hop_count) != 0 || memcmp(back.starts, starts, 2 * packet_count) != 0 || texts.text ||
+        texts.refusal || texts.value) {
+        fprintf(stderr, "bench: '%s' is read back as another job or plan\n", name);
+        exit(1);
+    }
+}
+
 /* Both must print the same plan. */
 static void agree(const char *name)
 {
@@ -388,11 +438,44 @@ static void agree(const char *name)
     agree_on_texts(name);
     zhevgulor_starts(LISTS, starts, packet_count);
     agree_on_starts(name);
+    plan_bytes = zhevgulor_plan(text, bytes, plan, sizeof plan).value;
+    last_packet = (uint16_t)(packet_count > 0 ? packet_count - 1 : 0);
+    agree_on_reading(name);
     fast_plan(text, bytes, fast, sizeof fast);
     memcpy(spoilt, text, bytes);
     memcpy(spoilt + bytes, "X\n", 2);
     if (zhevgulor_plan(spoilt, bytes + 2, plan, sizeof plan).refusal != 2)
         exit(1);
+}
+
+/* ---- How long a call takes ---- */
+
+static struct {
+    const char *name;
+    void (*run)(void);
+    double longest;
+} call[] = { { "zhevgulor_plan", run_plan, 0 },      { "zhevgulor_check_texts", run_texts, 0 }, { "zhevgulor_read", run_lists, 0 },
+             { "zhevgulor_tables", run_tables, 0 },  { "zhevgulor_starts", run_starts, 0 },     { "zhevgulor_check", run_check, 0 },
+             { "zhevgulor_plan_text", run_text, 0 }, { "zhevgulor_read_plan", run_read_plan, 0 }, { "zhevgulor_lead", run_lead, 0 } };
+enum { CALLS = sizeof call / sizeof call[0], TRIES = 5 };
+
+/* The median of a few tries. */
+static void time_calls(void)
+{
+    for (int c = 0; c < CALLS; c++) {
+        double took[TRIES];
+        for (int i = 0; i < TRIES; i++)
+            took[i] = time_of(call[c].run);
+        qsort(took, TRIES, sizeof took[0], by_size);
+        call[c].longest = took[TRIES / 2] > call[c].longest ? took[TRIES / 2] : call[c].longest;
+    }
+}
+
+static void tell_calls(void)
+{
+    printf("\nA call of each function, on the job on which it took longest, in microseconds:");
+    for (int c = 0; c < CALLS; c++)
+        printf(" %s %.0f%s", call[c].name, call[c].longest, c + 1 < CALLS ? "," : ".\n");
 }
 
 /* ---- The table ---- */
@@ -465,6 +548,7 @@ static void line(const char *name, const char *shown, int packets)
            t.fast_check, t.check / t.fast_check);
     fflush(stdout);
     compare(name, shown, packets, &t);
+    time_calls();
 }
 
 /* The part that takes the most times of fast.c's. */
@@ -510,6 +594,7 @@ int main(int words, char **word)
         line("one link", shown, packets[i]);
     }
     tell_greatest();
+    tell_calls();
     if (!only)
         furthest();
     return 0;

@@ -3,9 +3,9 @@
  *
  * The steps in which a link is entered stand side by side in memory. A packet goes along its path, and every step on one of its links
  * rules out one start, which is a bit; the first bit that is not set is its start. So the work for a packet is the number of its
- * meetings, each of which is looked at once; docs/PERFORMANCE.md says what a planner could gain that need not do so. Everything is read
- * once, nothing is looked up twice, a word of bits is kept in hand for as long as the steps fall in it, bits are cleared up to the
- * latest step alone, what was seen is stamped and never cleared, and nothing is kept on the stack. */
+ * meetings, each of which is looked at once; docs/PERFORMANCE.md says what a planner could gain that need not do so, or that need not mark
+ * a start by a bit. A word of bits is kept in hand for as long as the steps fall in it, bits are cleared up to the latest step alone,
+ * links past the last one that is used are passed over, what was seen is stamped and never cleared, and nothing is kept on the stack. */
 #include "fast.h"
 
 #include <string.h>
@@ -50,7 +50,7 @@ static inline int judge_link(unsigned a, unsigned b)
 }
 
 /* The hops of a path from its source on; each link's load grows by them. */
-static inline int judge_path(unsigned node, const uint16_t *own, unsigned count)
+static inline int judge_path(const uint16_t *from, const uint16_t *to, unsigned node, const uint16_t *own, unsigned count)
 {
     if (node >= nodes)
         return 4;
@@ -112,7 +112,7 @@ static zhevgulor_answer read_lines(const uint8_t *at, const uint8_t *end)
             return (zhevgulor_answer){ 2, line };
         if (packets == PACKETS || count > PATH || hops + count > HOPS)
             return (zhevgulor_answer){ 3, line };
-        if ((refusal = judge_path(a, own, count)))
+        if ((refusal = judge_path(from, to, a, own, count)))
             return (zhevgulor_answer){ (uint32_t)refusal, line };
         hops += count;
         stop[++packets] = (uint16_t)hops;
@@ -137,13 +137,15 @@ zhevgulor_answer fast_read(const uint8_t *text, size_t bytes)
 
 /* ---- Searching ---- */
 
-/* A place for each entry to come, those of a link side by side. */
-static void open_rooms(void)
+/* A place for each entry to come, those of a link side by side. No link from `used` on has an entry. */
+static unsigned used;
+
+static void open_rooms(unsigned hops)
 {
     unsigned sum = 0;
-    for (unsigned link = 0; link < links; link++) {
-        first[link] = next[link] = (uint16_t)sum;
-        sum += load[link];
+    for (used = 0; sum < hops; used++) {
+        first[used] = next[used] = (uint16_t)sum;
+        sum += load[used];
     }
 }
 
@@ -179,7 +181,7 @@ void fast_search(void)
 {
     unsigned latest = 0;
     meetings = 0;
-    open_rooms();
+    open_rooms(stop[packets]);
     for (unsigned k = 0; k < packets; k++) {
         const uint16_t *own = path + stop[k];
         unsigned count = stop[k + 1] - (unsigned)stop[k];
@@ -242,7 +244,7 @@ zhevgulor_answer fast_write(uint8_t *room, size_t room_bytes)
         d = count > d ? count : d;
         out = put_line(out, 'S', k, start[k], last);
     }
-    for (unsigned i = 0; i < links; i++)
+    for (unsigned i = 0; i < used; i++)
         c = load[i] > c ? load[i] : c;
     out = put_line(out, 'T', time, c, d);
     size_t bytes = (size_t)(out - begun);
@@ -285,13 +287,11 @@ static zhevgulor_answer judge(const fast_lists *job, const uint16_t *starts, siz
     for (unsigned link = 0; link < links; link++) {
         if ((refusal = judge_link(job->origins[link], job->ends[link])))
             return (zhevgulor_answer){ (uint32_t)refusal, link };
-        from[link] = job->origins[link];
-        to[link] = job->ends[link];
         load[link] = 0;
     }
     for (unsigned k = 0, begin = 0; k < job->stops_count; begin = job->stops[k++]) {
         unsigned count = job->stops[k] - begin;
-        refusal = count > PATH ? 3 : judge_path(job->sources[k], job->hops + begin, count);
+        refusal = count > PATH ? 3 : judge_path(job->origins, job->ends, job->sources[k], job->hops + begin, count);
         if (refusal)
             return (zhevgulor_answer){ (uint32_t)refusal, k };
     }
@@ -303,20 +303,22 @@ static zhevgulor_answer judge(const fast_lists *job, const uint16_t *starts, siz
     return (zhevgulor_answer){ 0, 0 };
 }
 
-/* Cuts the steps of each link before the first that stands there twice. Whether there is none. */
+/* Cuts the steps of each link before the first that stands there twice. Whether there is none. Steps that rise have none. */
 static int cut_repeats(void)
 {
     static uint32_t seen[ZHEVGULOR_LATEST_START + PATH], turn; /* the turn in which a step was seen last */
     int clear = 1;
-    for (unsigned link = 0; link < links; link++) {
-        unsigned i = first[link], last = next[link];
-        if (last - i < 2)
+    for (unsigned link = 0; link < used; link++) {
+        unsigned i = first[link] + 1u, last = next[link];
+        while (i < last && entered[i - 1] < entered[i])
+            i++;
+        if (i >= last)
             continue;
         if (++turn == 0) {
             memset(seen, 0, sizeof seen);
             turn = 1;
         }
-        for (; i < last && seen[entered[i]] != turn; i++)
+        for (i = first[link]; i < last && seen[entered[i]] != turn; i++)
             seen[entered[i]] = turn;
         if (i < last) {
             next[link] = (uint16_t)i;
@@ -346,9 +348,9 @@ zhevgulor_answer fast_check(const fast_lists *job, const uint16_t *starts, size_
     zhevgulor_answer answer = judge(job, starts, starts_count);
     if (answer.refusal)
         return answer;
-    open_rooms();
+    open_rooms((unsigned)job->hops_count);
     for (unsigned k = 0, i = 0; k < job->stops_count; k++)
-        for (unsigned step = starts[k]; i < job->stops[k]; i++, step++)
+        for (unsigned step = starts[k], end = job->stops[k]; i < end; i++, step++)
             entered[next[job->hops[i]]++] = (uint16_t)step;
     if (cut_repeats())
         return (zhevgulor_answer){ 0, 0 };
