@@ -76,9 +76,9 @@
  * TIME. No call waits for anything, and none takes long. The time of zhevgulor_plan and zhevgulor_starts grows with the bytes or
  * elements that they are handed and with the meetings: how often two packets have one link, at most 8,380,416 times in a job. The time
  * of the others grows with the bytes and elements alone. The job with the most meetings, 1,024 packets along one path of 16 links,
- * took zhevgulor_plan and zhevgulor_starts 9 milliseconds each where it was measured last (docs/PERFORMANCE.md). There zhevgulor_tables,
- * zhevgulor_check, zhevgulor_lead, zhevgulor_plan_text and zhevgulor_read_plan took at most 0.12 on any job of the benchmark;
- * zhevgulor_read and zhevgulor_check_texts were not timed, and by their parts take about 0.1 and 0.3.
+ * took zhevgulor_plan and zhevgulor_starts 9 milliseconds each where it was measured last (docs/PERFORMANCE.md). There, with the plans
+ * that zhevgulor_plan makes, zhevgulor_check_texts took at most 0.22 milliseconds on any job of the benchmark, and each of the other six
+ * functions at most 0.1.
  */
 #ifndef ZHEVGULOR_H
 #define ZHEVGULOR_H
