@@ -74,11 +74,11 @@
  * fails if a call takes more than ZHEVGULOR_STACK_BYTES, which leaves some 17,000 bytes above that.
  *
  * TIME. No call waits for anything, and none takes long. The time of zhevgulor_plan and zhevgulor_starts grows with the bytes or
- * elements that they are handed and with the meetings: how often two packets have one link, at most 8,380,416 times in a job. The time
- * of the others grows with the bytes and elements alone. The job with the most meetings, 1,024 packets along one path of 16 links,
- * took zhevgulor_plan and zhevgulor_starts 9 milliseconds each where it was measured last (docs/PERFORMANCE.md). There, with the plans
- * that zhevgulor_plan makes, zhevgulor_check_texts took at most 0.22 milliseconds on any job of the benchmark, and each of the other six
- * functions at most 0.1.
+ * elements that they are handed and with the meetings: how often two packets have one link, at most 8,380,416 times in a job; and a
+ * little with packets times hops, for each of which a bit is cleared. The time of the others grows with the bytes and elements alone.
+ * The job with the most meetings, 1,024 packets along one path of 16 links, took zhevgulor_plan and zhevgulor_starts 9 milliseconds
+ * each where it was measured last (docs/PERFORMANCE.md). There, with the plans that zhevgulor_plan makes, zhevgulor_check_texts took
+ * at most 0.22 milliseconds on any job of the benchmark, and each of the other six functions at most 0.1.
  */
 #ifndef ZHEVGULOR_H
 #define ZHEVGULOR_H
