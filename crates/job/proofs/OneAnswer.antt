@@ -1,6 +1,7 @@
 -- What the code answers is fixed by what the rules say of it: no two refusals share number and place, so a contract of the
 -- form `verdictOf r ≡ ..` has one outcome.
 use mathlib.Core.Path.{_≡_, refl, sym, ap, _∙_}
+use mathlib.Core.Bool.{false}
 use Prim.Native.Nat.{ℕ}
 use lib.Dec.{eqb}
 use Rattle.counting.specs.Count.{pick}
@@ -43,6 +44,23 @@ numbered-refusal StartCount = refl
 numbered-refusal (LateStart p) = refl
 numbered-refusal NoLead = refl
 numbered-refusal (NotFollowing p) = refl
+
+-- none has the number 0, by which a C program is told a value
+pub number-not-zero : (r : Refusal) → eqb (numberPlace r .0) 0 ≡ false
+number-not-zero TextTooLong = refl
+number-not-zero (BadForm p) = refl
+number-not-zero (Size p) = refl
+number-not-zero (NoNode p) = refl
+number-not-zero (SelfLink p) = refl
+number-not-zero (NoLink p) = refl
+number-not-zero (NotLeaving p) = refl
+number-not-zero (Revisited p) = refl
+number-not-zero Disagree = refl
+number-not-zero ShortRoom = refl
+number-not-zero StartCount = refl
+number-not-zero (LateStart p) = refl
+number-not-zero NoLead = refl
+number-not-zero (NotFollowing p) = refl
 
 -- the verdict that the rules' verdict is told as
 abbrev told : Ruled → Verdict

@@ -1,10 +1,8 @@
 -- From what the proved functions answer to what a C program is told.
 use mathlib.Core.Path.{_≡_, refl, sym, ap, _∙_}
-use mathlib.Core.Bool.{false}
 use mathlib.Core.List.{List, [], _∷_, _++_}
 use Prim.Native.Nat.{ℕ, _≤_, _<_}
 use native.Mathlib.Omega.{arith}
-use lib.Dec.{eqb}
 use lib.ListN.{length, drop, set}
 use lib.IntN.{ℤ, pos, negsuc, natAbs}
 use mir.Syntax.{w32}
@@ -23,7 +21,6 @@ use Rattle.theorems.proofs.Accepted.{tables-fine-iff}
 use Rattle.theorems.proofs.Demands.{starts-count}
 use Rattle.theorems.proofs.Started.{led-in-range}
 use Rattle.job.specs.declared.Refusal.{Refusal}
-use Rattle.job.specs.declared.Refusal.the-variants.{TextTooLong, BadForm, Size, NoNode, SelfLink, NoLink, NotLeaving, Revisited, Disagree, ShortRoom, StartCount, LateStart, NoLead, NotFollowing}
 use Rattle.job.specs.declared.Verdict.{Verdict}
 use Rattle.job.specs.declared.Verdict.the-variants.{Fine, Refused}
 use Rattle.job.specs.Told.{numberPlace, refusalOf, verdictOf}
@@ -45,23 +42,6 @@ use Rattle.zhevgulor.specs.declared.Answer.{Answer}
 use Rattle.zhevgulor.specs.declared.ReadAnswer.{ReadAnswer}
 use Rattle.zhevgulor.specs.declared.TextsAnswer.{TextsAnswer}
 use Rattle.zhevgulor.specs.Told.{answerFor, leadFor, readFor, LentAs, checkedIn, ReadFor, aboutText, refusedText, clashIn, TextsFor}
-
--- no refusal has the number 0, which stands for a value: so a C program can tell them apart
-pub number-not-zero : (r : Refusal) → eqb (numberPlace r .0) 0 ≡ false
-number-not-zero TextTooLong = refl
-number-not-zero (BadForm p) = refl
-number-not-zero (Size p) = refl
-number-not-zero (NoNode p) = refl
-number-not-zero (SelfLink p) = refl
-number-not-zero (NoLink p) = refl
-number-not-zero (NotLeaving p) = refl
-number-not-zero (Revisited p) = refl
-number-not-zero Disagree = refl
-number-not-zero ShortRoom = refl
-number-not-zero StartCount = refl
-number-not-zero (LateStart p) = refl
-number-not-zero NoLead = refl
-number-not-zero (NotFollowing p) = refl
 
 -- ---- verdicts
 
