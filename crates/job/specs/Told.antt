@@ -2,11 +2,11 @@
 use Prim.Native.Nat.{ℕ}
 use Rattle.rules.specs.Outcome.{Outcome, is, refused, Verdict as Ruled}
 use Rattle.job.specs.declared.Refusal.{Refusal}
-use Rattle.job.specs.declared.Refusal.the-variants.{TextTooLong, BadForm, Size, NoNode, SelfLink, NoLink, NotLeaving, Revisited, Disagree, ShortRoom, StartCount, LateStart, NoLead, NotFollowing}
+use Rattle.job.specs.declared.Refusal.the-variants.{TextTooLong, BadForm, Size, NoNode, SelfLink, NoLink, NotLeaving, Revisited, Disagree, ShortRoom, StartCount, LateStart, NoLead, NotFollowing, NoHops}
 use Rattle.job.specs.declared.Verdict.{Verdict}
 use Rattle.job.specs.declared.Verdict.the-variants.{Fine, Refused}
 
--- number and place of each, as in the table of document 01, "Refusals and their order", and in request 1 of document 02
+-- number and place of each, as in the table of document 01, "Refusals and their order", and in requests 1 and 3 of document 02
 abbrev pub numberPlace : Refusal → ℕ × ℕ
 numberPlace TextTooLong = (1, 0)
 numberPlace (BadForm line) = (2, line)
@@ -22,6 +22,7 @@ numberPlace StartCount = (11, 0)
 numberPlace (LateStart place) = (12, place)
 numberPlace NoLead = (13, 0)
 numberPlace (NotFollowing line) = (14, line)
+numberPlace (NoHops place) = (15, place)
 
 abbrev pub refusalOf : {A : Type 0} → Refusal → Outcome A
 refusalOf r = refused (numberPlace r .0) (numberPlace r .1)

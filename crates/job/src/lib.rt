@@ -29,7 +29,7 @@ impl Job {
     pub const LINKS: usize = 4096;
     // packets, each with its path
     pub const PACKETS: usize = 1024;
-    // hops of one path
+    // hops of one path are 1 to this
     pub const PATH: usize = 255;
     // hops of all paths together
     pub const HOPS: usize = 16384;
@@ -124,6 +124,7 @@ pub enum Refusal {
     LateStart(u32),
     NoLead,
     NotFollowing(u32),
+    NoHops(u32),
 }
 
 impl Refusal {
@@ -146,6 +147,7 @@ impl Refusal {
             Refusal::LateStart(_) => 12,
             Refusal::NoLead => 13,
             Refusal::NotFollowing(_) => 14,
+            Refusal::NoHops(_) => 15,
         }
     }
 
@@ -162,6 +164,7 @@ impl Refusal {
             Refusal::Revisited(place) => place,
             Refusal::LateStart(place) => place,
             Refusal::NotFollowing(line) => line,
+            Refusal::NoHops(place) => place,
             Refusal::TextTooLong => 0,
             Refusal::Disagree => 0,
             Refusal::ShortRoom => 0,
@@ -279,7 +282,7 @@ fn walk(origins: &[u16], ends: &[u16], path: &[u16], source: u16, place: u32) ->
     Verdict::Fine
 }
 
-// One packet: its path's length, its source, then its hops.
+// One packet: its path's length, its source, that it has hops, then each of them.
 pub fn packet_verdict(
     nodes: u16,
     origins: &[u16],
@@ -295,6 +298,9 @@ pub fn packet_verdict(
     }
     if source >= nodes {
         return Verdict::Refused(Refusal::NoNode(place));
+    }
+    if path.len() == 0 {
+        return Verdict::Refused(Refusal::NoHops(place));
     }
     walk(origins, ends, path, source, place)
 }

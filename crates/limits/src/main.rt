@@ -97,19 +97,32 @@ fn fill(list: &mut [u16], rule: Rule) {
     }
 }
 
-// Packets without hops on one node.
+// Packets of one hop, all over one link; at last one of them has none.
 fn packets() {
-    let none = [0u16; 0];
     let most = [0u16; 1024];
     let over = [0u16; 1025];
+    let mut stops = [0u16; 1024];
+    let mut stops_over = [0u16; 1025];
+    fill(&mut stops, Rule::Next);
+    fill(&mut stops_over, Rule::Next);
     let mut starts = [7u16; 1025];
-    let planned = planner::plan(1, &none, &none, &most, &most, &none, &mut starts);
-    show_verdict(b"packets-1024", planned, total(&starts));
-    let refused = planner::plan(1, &none, &none, &over, &over, &none, &mut starts);
-    show_verdict(b"packets-1025", refused, total(&starts));
+    on_one_link(b"packets-1024", &most, &stops, &most, &mut starts);
+    on_one_link(b"packets-1025", &over, &stops_over, &over, &mut starts);
     let mut room = [7u16; 1023];
-    let short = planner::plan(1, &none, &none, &most, &most, &none, &mut room);
-    show_verdict(b"room-1023", short, total(&room));
+    on_one_link(b"room-1023", &most, &stops, &most, &mut room);
+    stops[1023] = 1023;
+    on_one_link(
+        b"last-without-hops",
+        &most,
+        &stops,
+        &[0u16; 1023],
+        &mut starts,
+    );
+}
+
+fn on_one_link(name: &[u8], sources: &[u16], stops: &[u16], hops: &[u16], starts: &mut [u16]) {
+    let planned = planner::plan(2, &[0u16; 1], &[1u16; 1], sources, stops, hops, starts);
+    show_verdict(name, planned, total(starts));
 }
 
 // One path along a line of nodes.

@@ -1,3 +1,4 @@
 pub mod Sessions
+pub mod NoHops
 pub mod Parallel
 pub mod Readings

@@ -1,4 +1,5 @@
--- Document 01, "Sessions to try": every starred one, as a row of one table. Proved by computation from the job's bytes.
+-- Document 01, "Sessions to try": every starred one, as a row of one table. Proved by computation from the job's bytes. The last
+-- is as document 02, request 3, has it: a packet without hops is refused.
 use mathlib.Core.Path.{_≡_, refl}
 use mathlib.Core.List.{List, [], _∷_, _++_}
 use mathlib.Core.Option.{Option, none, some}
@@ -82,7 +83,7 @@ linksA = N 4 ++ L 0 1 ++ L 1 2 ++ L 2 3
 abbrev fiveLinks : List ℕ
 fiveLinks = N 5 ++ L 0 1 ++ L 1 2 ++ L 2 3 ++ L 1 4 ++ L 4 2
 
-abbrev twoWay : List ℕ
+abbrev pub twoWay : List ℕ
 twoWay = N 2 ++ L 0 1 ++ L 1 0
 
 unfoldable pub table : List Session
@@ -101,7 +102,7 @@ table =
     ∷ prints (twoWay ++ P 0 (1 ∷ [])) (82 ∷ 9 ∷ 55 ∷ 9 ∷ 52 ∷ 10 ∷ [])
     ∷ starts (twoWay ++ P 0 (0 ∷ []) ++ P 1 (1 ∷ [])) (0 ∷ 0 ∷ [])
     ∷ prints (N 1) (T 0 0 0)
-    ∷ prints (N 1 ++ P 0 []) (S 0 0 0 ++ T 0 0 0)
+    ∷ prints (N 1 ++ P 0 []) (82 ∷ 9 ∷ 49 ∷ 53 ∷ 9 ∷ 50 ∷ 10 ∷ [])
     ∷ []
 
 pub sessions : AllHold Holds table

@@ -1,5 +1,6 @@
 -- Document 01, "Job text and plan text" and "Refusals and their order", Text: what a job's text means. The first line is read
--- apart; each later line is judged for its form, its sizes, its nodes, then its hops. A refusal names the line, from 1.
+-- apart; each later line is judged for its form, its sizes, its nodes, whether a packet has hops, then each hop. A refusal names the line,
+-- from 1.
 use mathlib.Core.List.{List, [], _∷_, _++_}
 use mathlib.Core.Option.{Option, none, some}
 use mathlib.Core.Bool.{_&&_}

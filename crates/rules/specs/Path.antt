@@ -6,7 +6,8 @@ use Prim.Native.Nat.{ℕ, suc}
 use lib.ListN.{length, getElem?}
 use Rattle.rules.specs.Network.{Network}
 
--- From the source each link leaves the node reached and enters the next one, and no node is visited twice.
+-- From the source each link leaves the node reached and enters the next one, and no node is visited twice. No link at all is a path
+-- too: that a packet has one is asked by itself (`packetVerdict` of Tables.antt).
 pub record IsPath (net : Network) (source : ℕ) (path : List ℕ) : Type 0 where
   -- the nodes in the order of their visits: one more than there are links
   pub visited : List ℕ

@@ -19,7 +19,7 @@ linksMost = 4096
 abbrev pub packetsMost : ℕ
 packetsMost = 1024
 
--- hops of one path
+-- hops of one path are 1 to this (the 1 by document 02, request 3)
 abbrev pub pathMost : ℕ
 pathMost = 255
 

@@ -1,5 +1,5 @@
 -- Document 01, "Refusals and their order": which lists are a job, and else which refusal, in the order of its paragraph on
--- tables. The refusals of one link and of one packet serve job text too: there the place is the line.
+-- tables, with 15 of document 02, request 3. The refusals of one link and of one packet serve job text too: there the place is the line.
 use mathlib.Core.Bool.{Bool, not, _&&_}
 use mathlib.Core.List.{List, [], _∷_, _++_}
 use mathlib.Core.Option.{Option, none, some}
@@ -32,11 +32,12 @@ walk net place reached visited [] = fine
 walk net place reached visited (l ∷ ls) =
     onward (hop place reached visited (linkAt net l)) (λ node. walk net place node (visited ++ (node ∷ [])) ls)
 
--- one packet: 3 for its path, 4 for its source, then its hops
+-- one packet: 3 for its path, 4 for its source, 15 for a path without hops, then its hops
 unfoldable pub packetVerdict : Network → ℕ → ℕ → List ℕ → Verdict
 packetVerdict net place source path =
     must (leb (length path) pathMost) 3 place
     then must (ltb source (net .nodes)) 4 place
+    then must (leb 1 (length path)) 15 place
     then walk net place source (source ∷ []) path
 
 -- the links in order, from number k on

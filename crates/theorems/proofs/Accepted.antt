@@ -61,8 +61,11 @@ link-fine-iff nodes place from to =
 pub packet-fine-iff : (net : Network) (place source : ℕ) (path : List ℕ) → (packetVerdict net place source path ≡ fine) ↔ IsPacket net source path
 unfolding packetVerdict
 packet-fine-iff net place source path =
-    Iff·trans (then-iff (must-iff _ _ (leb-iff _ _)) (then-iff (must-iff _ _ (leb-iff _ _)) (walk-fine-iff net place source path)))
-    (λ (short, (source-node, on-path)). record { short = short; source-node = source-node; on-path = on-path }, λ h. (h .short, (h .source-node, h .on-path)))
+    Iff·trans
+    (then-iff (must-iff _ _ (leb-iff _ _)) (then-iff (must-iff _ _ (leb-iff _ _)) (then-iff (must-iff _ _ (leb-iff _ _)) (walk-fine-iff net place source path)))) (
+      λ (short, (source-node, (some-hop, on-path))). record { short = short; source-node = source-node; some-hop = some-hop; on-path = on-path },
+      λ h. (h .short, (h .source-node, (h .some-hop, h .on-path))),
+    )
 
 links-fine-iff : (nodes k : ℕ) (os es : List ℕ) → (linksVerdict nodes k os es ≡ fine) ↔ AtEach (IsLink nodes) os es
 unfolding linksVerdict

@@ -17,6 +17,7 @@ pub mod OneStep
 pub mod Demands
 pub mod Numbers
 pub mod PlanLength
+pub mod SomeHops
 pub mod Leads
 pub mod Started
 pub mod Checked

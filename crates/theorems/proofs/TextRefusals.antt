@@ -48,7 +48,8 @@ module _ {last place : ℕ} (near : place ≤ last) where
   packet-refused : (net : Network) (source : ℕ) (path : List ℕ) → Refusals (By lineNumbers last) (packetVerdict net place source path)
   unfolding packetVerdict
   packet-refused net source path =
-      in-turn (test (leb (length path) pathMost) 3 refl) (in-turn (test (ltb source (net .nodes)) 4 refl) (walk-refused net source (source ∷ []) path))
+      in-turn (test (leb (length path) pathMost) 3 refl)
+      (in-turn (test (ltb source (net .nodes)) 4 refl) (in-turn (test (leb 1 (length path)) 15 refl) (walk-refused net source (source ∷ []) path)))
 
   line-refused : (j : Job) (l : Line) → Refusals (By lineNumbers last) (withLine place j l)
   unfolding withLine

@@ -1,5 +1,5 @@
 -- What an accepted job is, and an accepted job with starts: sizes within their limits, links between two nodes of the network,
--- packets on paths of it, and a start in time for each.
+-- packets on paths of it, of one hop at least, and a start in time for each.
 use mathlib.Core.Path.{_≡_}
 use mathlib.Core.List.{List, _∷_, List·Memᴰ}
 use mathlib.Core.Option.{some}
@@ -23,6 +23,7 @@ pub record IsLink (nodes from to : ℕ) : Type 0 where
 pub record IsPacket (net : Network) (source : ℕ) (path : List ℕ) : Type 0 where
   pub short : length path ≤ pathMost
   pub source-node : source < net .nodes
+  pub some-hop : 1 ≤ length path
   pub on-path : IsPath net source path
 
 -- where the paths stop in the hops: no stop is less than the one before it (`first`, before the first), and the last (`first`,

@@ -8,7 +8,7 @@ use Rattle.rules.specs.Outcome.{Outcome, refused}
 
 -- a line of it
 abbrev pub lineNumbers : List ℕ
-lineNumbers = 2 ∷ 3 ∷ 4 ∷ 5 ∷ 6 ∷ 7 ∷ 8 ∷ []
+lineNumbers = 2 ∷ 3 ∷ 4 ∷ 5 ∷ 6 ∷ 7 ∷ 8 ∷ 15 ∷ []
 
 -- or the text, for its length
 abbrev pub textNumbers : List ℕ
