@@ -38,7 +38,7 @@ void run_own_plan(const struct text *job, size_t places);
 
 /* How often each function gave each refusal, 0 being none, and how often a clash was shown. What the check of two texts refuses in
  * the plan has a row of its own. */
-enum { REFUSALS = 15, TEXTS_PLAN = FUNCTIONS, GIVERS };
+enum { REFUSALS = 16, TEXTS_PLAN = FUNCTIONS, GIVERS };
 extern long given[GIVERS][REFUSALS];
 extern long clashes, texts_clashes; /* by the check of starts, and of two texts */
 

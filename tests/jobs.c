@@ -55,6 +55,19 @@ void push_path(struct tables *tables, int source, int first_link, int hops)
     push(&tables->stops, (int)tables->hops.count);
 }
 
+/* Where the stops are not in order, nothing is taken. */
+void take_hops(struct tables *tables, size_t k)
+{
+    struct list *hops = &tables->hops, *stops = &tables->stops;
+    size_t begin = k > 0 ? stops->value[k - 1] : 0, end = stops->value[k];
+    if (begin > end || end > hops->count)
+        return;
+    memmove(hops->value + begin, hops->value + end, (hops->count - end) * sizeof hops->value[0]);
+    hops->count -= end - begin;
+    for (; k < stops->count; k++)
+        stops->value[k] -= (uint16_t)(end - begin);
+}
+
 void clear_text(struct text *text) { text->bytes = 0; }
 
 void clear_tables(struct tables *tables)
@@ -70,6 +83,18 @@ void line_network(struct tables *tables, int nodes)
     for (int node = 0; node + 1 < nodes; node++) {
         push(&tables->origins, node);
         push(&tables->ends, node + 1);
+    }
+}
+
+/* If all start at once nobody meets anybody: on each link every packet is at another hop. */
+void ring_job(struct job *job, int nodes, int hops)
+{
+    job->nodes = job->links = job->packets = nodes;
+    for (int k = 0; k < nodes; k++) {
+        job->link[k] = (struct link){ k, (k + 1) % nodes };
+        job->packet[k] = (struct packet){ .source = k, .hops = hops };
+        for (int hop = 0; hop < hops; hop++)
+            job->packet[k].link[hop] = (k + hop) % nodes;
     }
 }
 
@@ -272,6 +297,16 @@ static void piece(const struct job *job, const struct packet *path, int from, in
         packet->link[hop - from] = path->link[hop];
 }
 
+/* A walk of one hop at least. A source without a way out is changed for one that has a link. */
+static void some_walk(const struct job *job, struct packet *packet, int longest)
+{
+    int most = between(1, longest);
+    walk(job, packet, (int)pick((unsigned)job->nodes), most, 0);
+    if (packet->hops == 0)
+        walk(job, packet, job->link[pick((unsigned)job->links)].from, most, 0);
+}
+
+/* Every packet has a hop, so without links there are none. */
 static void random_packets(struct job *job, enum crowd crowd, int packets, int longest)
 {
     static struct packet base[4];
@@ -279,12 +314,11 @@ static void random_packets(struct job *job, enum crowd crowd, int packets, int l
     for (int i = 0; i < bases; i++)
         walk(job, &base[i], (int)pick((unsigned)job->nodes), longest, 0);
     hot = base[0].hops > 0 ? (int)pick((unsigned)base[0].hops) : 0;
-    for (job->packets = 0; job->packets < packets; job->packets++) {
+    for (job->packets = 0; job->packets < packets && job->links > 0; job->packets++) {
         struct packet *packet = &job->packet[job->packets];
         const struct packet *path = &base[pick((unsigned)bases)];
         if (crowd == SPARSE || path->hops == 0 || chance(10)) {
-            int source = (int)pick((unsigned)job->nodes);
-            walk(job, packet, source, between(0, longest), 0);
+            some_walk(job, packet, longest);
         } else {
             int from = between(0, crowd == HOT ? hot : path->hops - 1);
             int to = between(crowd == HOT ? hot + 1 : from + 1, path->hops);
@@ -404,6 +438,15 @@ static int find_number(const struct text *text, size_t begin, size_t end, size_t
     return 1;
 }
 
+/* Behind the first number of the line, where the links of a path begin. */
+static size_t first_number_end(const struct text *text, size_t begin, size_t end)
+{
+    int tabs = 0;
+    while (begin < end && (tabs += text->byte[begin] == '\t') < 2)
+        begin++;
+    return begin;
+}
+
 /* A P line that is well formed but that may break any rule of a path. */
 static void wild_packet(const struct job *job, char *line)
 {
@@ -469,7 +512,7 @@ void damage_text(struct text *text, const struct job *job, int line)
     find_line(text, line, &begin, &end);
     at = begin + pick((unsigned)(end - begin) + 1);
     byte = odd[pick(sizeof odd)];
-    switch (pick(18)) {
+    switch (pick(20)) {
     case 0:
         damage_line(text, job, A_BIT, at, byte, begin, end);
         break;
@@ -520,6 +563,10 @@ void damage_text(struct text *text, const struct job *job, int line)
         number = chance(40) ? edge(job) : (int)pick((unsigned)job->nodes + 1);
         sprintf(wild, "L\t%d\t%d", number, chance(60) ? number : chance(50) ? edge(job) : (int)pick((unsigned)job->nodes + 1));
         replace_words(text, begin, end - begin, wild);
+        break;
+    case 15: /* a path is cut to its source */
+        from = first_number_end(text, begin, end);
+        replace(text, from, end - from, "", 0);
         break;
     default: /* a packet in place of the line */
         wild_packet(job, wild);
@@ -704,7 +751,7 @@ void damage_tables(struct tables *tables, const struct job *job)
 {
     struct list *const every[] = { &tables->origins, &tables->ends, &tables->sources, &tables->stops, &tables->hops };
     unsigned at;
-    switch (pick(14)) {
+    switch (pick(17)) {
     case 0:
         tables->nodes = (uint16_t)(chance(50) ? edge(job) : (int)pick((unsigned)job->nodes + 1));
         break;
@@ -749,6 +796,16 @@ void damage_tables(struct tables *tables, const struct job *job)
         at = chance(50) ? 0 : 2;
         longer_or_shorter(every[at], job);
         longer_or_shorter(every[at + 1], job);
+        break;
+    case 12: /* a packet loses its hops */
+        if (tables->stops.count > 0)
+            take_hops(tables, pick((unsigned)tables->stops.count));
+        break;
+    case 13: /* a stop is the one before it, so that a packet's hops go to the packet below it */
+        if (tables->stops.count > 1) {
+            at = pick((unsigned)tables->stops.count - 1);
+            tables->stops.value[at] = at > 0 ? tables->stops.value[at - 1] : 0;
+        }
         break;
     default:
         add_packet(tables, job);

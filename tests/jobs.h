@@ -20,9 +20,11 @@ int chance(int percent);
 void add(struct text *text, const char *format, ...);
 void push(struct list *list, int value);
 void push_path(struct tables *tables, int source, int first_link, int hops); /* hops over links first_link, + 1, + 2 ... */
+void take_hops(struct tables *tables, size_t k); /* packet k is left without hops; the other packets keep theirs */
 void clear_text(struct text *text);
 void clear_tables(struct tables *tables);
 void line_network(struct tables *tables, int nodes); /* nodes in a row, link i from node i to node i + 1 */
+void ring_job(struct job *job, int nodes, int hops); /* as many packets: packet k sets out at node k, over link k, + 1, + 2 ... */
 void show_text(struct text *text, const char *shown); /* spaces stand for tabs */
 void show_job(struct job *job, const char *shown);
 extern const char session_a[];

@@ -79,9 +79,23 @@ static void limit_nodes(void)
     for (size_t i = 0; i < COUNT(count); i++)
         for (int node = count[i] > 0 ? count[i] - 1 : 0; node <= count[i] + 1 && node <= 65535; node++) {
             name_cases("%d nodes, node %d", count[i], node);
-            clear_text(&text);
-            add(&text, "N\t%d\nP\t%d\n", count[i], node);
-            run_text_everywhere(SMALL_ROOM);
+            int last = count[i] > 1 ? count[i] - 1 : 0; /* it has a link, if there are two nodes */
+            for (int hops = 0; hops < 2; hops++) {
+                clear_text(&text);
+                add(&text, "N\t%d\n", count[i]);
+                if (hops)
+                    add(&text, "L\t%d\t%d\n", last, last == 0);
+                add_path(node, 0, hops);
+                run_text_everywhere(SMALL_ROOM);
+                clear_tables(&tables);
+                tables.nodes = (uint16_t)count[i];
+                if (hops) {
+                    push(&tables.origins, last);
+                    push(&tables.ends, last == 0);
+                }
+                push_path(&tables, node, 0, hops);
+                run_tables_everywhere();
+            }
             clear_text(&text);
             add(&text, "N\t%d\nL\t0\t%d\nL\t%d\t0\n", count[i], node, node);
             run_text_everywhere(SMALL_ROOM);
@@ -92,10 +106,6 @@ static void limit_nodes(void)
                 push(&tables.ends, turned ? 0 : node);
                 run_tables_everywhere();
             }
-            clear_tables(&tables);
-            tables.nodes = (uint16_t)count[i];
-            push_path(&tables, node, 0, 0);
-            run_tables_everywhere();
         }
 }
 
@@ -130,32 +140,36 @@ static void limit_links(void)
         }
 }
 
+/* Each packet has a link of its own. */
 static void limit_packets(void)
 {
-    static const char *const last_line[] = { "P\t0\n", "P\t9\n", "P\t0\t0\n", "P\t0\t00\n", "P\t0", "L\t0\t1\n" };
+    static const char *const last_line[] = { "P\t0\t0\n", "P\t0\n", "P\t1024\n", "P\t1024\t0\n", "P\t0\t1024\n", "P\t0\t00\n",
+                                             "P\t0\t0", "P\t0", "L\t0\t1\n" };
     for (int packets = 1023; packets <= 1024; packets++)
         for (size_t i = 0; i < COUNT(last_line); i++) {
-            clear_text(&text);
-            add(&text, "N\t2\n");
-            for (int k = 0; k < packets; k++)
-                add(&text, "P\t%d\n", k % 2);
+            ring_job(&job, 1024, 1);
+            job.packets = packets;
+            text_of_job(&job, &text);
             add(&text, "%s", last_line[i]);
             name_cases("%d packets and line %zu", packets, i);
             run_text_everywhere(ROOM);
         }
     static const int count[] = { 1023, 1024, 1025, 65535, 65536, 65537 };
     for (size_t i = 0; i < COUNT(count); i++)
-        for (int mistake = 0; mistake < 6; mistake++) {
+        for (int mistake = 0; mistake < 8; mistake++) {
             size_t last = (size_t)count[i] - 1;
-            clear_tables(&tables);
-            tables.nodes = mistake == 1 ? 0 : 2;
-            for (int k = 0; k < count[i]; k++)
-                push_path(&tables, 1, 0, 0);
+            ring_job(&job, 1024, 1);
+            job.packets = 0;
+            tables_of_job(&job, &tables);
+            for (int k = 0; k < count[i]; k++) /* of more packets than there may be the last have no hops: a stop has 16 bits */
+                push_path(&tables, k % 1024, k % 1024, mistake != 6 && k < 1025);
             switch (mistake) {
-            case 2: tables.sources.value[last] = 2; break;
-            case 3: tables.stops.value[last - 1] = 1; break; /* the stops fall */
+            case 1: tables.nodes = 0; break;
+            case 2: tables.sources.value[last] = 1024; break;
+            case 3: tables.stops.value[last - 1] = (uint16_t)(tables.hops.count + 1); break; /* the stops fall */
             case 4: tables.stops.count--; break;
-            case 5: tables.stops.value[last] = 1; break;
+            case 5: tables.stops.value[last]++; break;
+            case 7: take_hops(&tables, last); break;
             }
             name_cases("%d packets as lists, mistake %d", count[i], mistake);
             run_tables_everywhere();
@@ -164,24 +178,30 @@ static void limit_packets(void)
                 run_starts(&tables, (size_t)count[i]);
                 run_starts(&tables, last);
             }
+            if (mistake == 6) {
+                run_tables(&tables);
+                expect(planner.answer.refusal == (count[i] > 1024 ? 3 : 15) && planner.answer.value == 0, "%s", label);
+            }
         }
 }
 
 static void limit_path(void)
 {
     static const char *const end[] = { "\n", "\t\n", "\t01\n", "", "\t255\n", "\t0\n", "\t9999\n" };
-    for (int hops = 254; hops <= 257; hops++)
+    static const int count[] = { 0, 1, 2, 254, 255, 256, 257 };
+    for (size_t c = 0; c < COUNT(count); c++)
         for (size_t i = 0; i < COUNT(end); i++)
             for (int source = 0; source <= 300; source += 300) {
                 line_text(260);
                 add_path(0, 0, 3);
-                add_path(source, 0, hops);
+                add_path(source, 0, count[c]);
                 end_last_line(end[i]);
-                name_cases("path of %d hops from %d, end %zu", hops, source, i);
+                name_cases("path of %d hops from %d, end %zu", count[c], source, i);
                 run_text_everywhere(ROOM);
             }
-    for (int hops = 254; hops <= 257; hops++)
+    for (size_t c = 0; c < COUNT(count); c++)
         for (int mistake = 0; mistake < 6; mistake++) {
+            int hops = count[c];
             line_network(&tables, 260);
             push_path(&tables, mistake == 5 ? 260 : 0, 0, 3);
             push_path(&tables, 2, 2, mistake == 4 ? hops : 5);
@@ -208,7 +228,7 @@ static void limit_hops(void)
             run_text_everywhere(ROOM);
         }
     for (int last_hops = 63; last_hops <= 66; last_hops++)
-        for (int mistake = 0; mistake < 5; mistake++) {
+        for (int mistake = 0; mistake < 6; mistake++) {
             line_network(&tables, 300);
             for (int k = 0; k < 64; k++)
                 push_path(&tables, 0, 0, 255);
@@ -217,6 +237,7 @@ static void limit_hops(void)
             case 2: tables.ends.value[0] = 300; break;
             case 3: tables.stops.value[64]++; break;
             case 4: tables.stops.value[30] = 0; break;
+            case 5: tables.stops.value[30] = tables.stops.value[29]; break; /* packet 30 has no hops, and 31 too many */
             }
             name_cases("%d hops in all as lists, mistake %d", 16320 + last_hops, mistake);
             run_tables_everywhere();
@@ -246,16 +267,18 @@ static void text_of_length(size_t bytes)
         add(&text, "L\t%d\t%d\n", 1000 + link % 23, 1001 + link % 23);
     for (int k = 0; bytes - text.bytes > 150; k++)
         add_path(1001, 4003 - 23 * (k % 20), 20);
-    while (bytes - text.bytes > 11) /* lines of 7 bytes until 5 to 11 are left, which are one line or two */
-        add(&text, "P\t1000\n");
+    while (bytes - text.bytes > 17) /* lines of 9 bytes until 9 to 17 are left, which are one line */
+        add(&text, "P\t1000\t0\n");
     switch (bytes - text.bytes) {
-    case 5: add(&text, "P\t10\n"); break;
-    case 6: add(&text, "P\t100\n"); break;
-    case 7: add(&text, "P\t1000\n"); break;
-    case 8: add(&text, "P\t0\nP\t0\n"); break;
-    case 9: add(&text, "P\t0\nP\t10\n"); break;
-    case 10: add(&text, "P\t10\nP\t10\n"); break;
-    case 11: add(&text, "P\t10\nP\t100\n"); break;
+    case 9: add(&text, "P\t1000\t0\n"); break;
+    case 10: add(&text, "P\t1000\t23\n"); break;
+    case 11: add(&text, "P\t1000\t115\n"); break;
+    case 12: add(&text, "P\t1000\t1150\n"); break;
+    case 13: add(&text, "P\t1000\t115\t1\n"); break;
+    case 14: add(&text, "P\t1000\t115\t24\n"); break;
+    case 15: add(&text, "P\t1000\t115\t116\n"); break;
+    case 16: add(&text, "P\t1000\t115\t1151\n"); break;
+    case 17: add(&text, "P\t1000\t1150\t1151\n"); break;
     }
     if (text.bytes != bytes)
         abort();
@@ -288,15 +311,16 @@ static void limit_bytes(void)
     run_text_everywhere(ROOM);
     run_text(&text, 0);
 
-    static const char *const again[] = { "\n", "\t", "0", "9", "P\t0\n", "N\t1\n", "\t0", "N", "\r\n", "\xFF", " " };
+    static const char *const heads[] = { "", "N\t1\nP\t0", "N\t2\nL\t0\t1\nP\t0\t0" };
+    static const char *const again[] = { "\n", "\t", "0", "9", "P\t0\n", "N\t1\n", "\t0", "N", "\r\n", "\xFF", " ", "\nP\t0\t0" };
     for (size_t i = 0; i < COUNT(again); i++)
-        for (int head = 0; head < 2; head++)
+        for (size_t head = 0; head < COUNT(heads); head++)
             for (size_t bytes = 65535; bytes <= 65536; bytes++) {
                 clear_text(&text);
-                add(&text, "%s", head ? "N\t1\nP\t0" : "");
+                add(&text, "%s", heads[head]);
                 for (const char *byte = again[i]; text.bytes < bytes; byte = byte[1] ? byte + 1 : again[i])
                     text.byte[text.bytes++] = (uint8_t)*byte;
-                name_cases("%zu bytes, all alike: %zu after head %d", bytes, i, head);
+                name_cases("%zu bytes, all alike: %zu after head %zu", bytes, i, head);
                 run_text_everywhere(ROOM);
             }
 }
@@ -424,30 +448,45 @@ static void far_links(void)
     run_one_meeting(0, 1, 4095, 0);
 }
 
-/* 1,024 packets, of which two have a hop. */
+/* 1,024 packets, of which two have one link. The others have links of their own. */
 static void far_packets(void)
 {
     static const struct { int first, second; } pair[] = { { 0, 1023 }, { 255, 256 }, { 999, 1000 }, { 1022, 1023 } };
     for (size_t i = 0; i < COUNT(pair); i++) {
-        job.nodes = 2;
-        job.links = 0;
-        add_link(0, 1);
-        job.packets = 1024;
-        for (int k = 0; k < 1024; k++)
-            job.packet[k] = (struct packet){ .source = 0, .hops = k == pair[i].first || k == pair[i].second };
+        ring_job(&job, 1024, 1);
+        job.packet[pair[i].second] = job.packet[pair[i].first];
         name_cases("1,024 packets, %d and %d on one link", pair[i].first, pair[i].second);
-        run_one_meeting(pair[i].first, pair[i].second, 0, 0);
+        run_one_meeting(pair[i].first, pair[i].second, pair[i].first, 0);
     }
+}
+
+/* 1,024 packets, of which one has no hops: the others have one, or, where they fit into lists alone, sixteen. Packet 1,023 sets out
+ * at the last node. */
+static void far_no_hops(void)
+{
+    static const int far[] = { 0, 255, 256, 511, 999, 1000, 1022, 1023 };
+    for (size_t i = 0; i < COUNT(far); i++)
+        for (int hops = 1; hops <= 16; hops += 15) {
+            ring_job(&job, 1024, hops);
+            job.packet[far[i]].hops = 0;
+            name_cases("1,024 packets of %d hops, only %d has none", hops, far[i]);
+            if (hops == 1) {
+                text_of_job(&job, &text);
+                run_text_everywhere(ROOM);
+                expect(planner.answer.refusal == 15 && planner.answer.value == (uint32_t)(far[i] + 1026), "%s, read", label);
+            }
+            tables_of_job(&job, &tables);
+            run_tables_everywhere();
+            expect(planner.answer.refusal == 15 && planner.answer.value == (uint32_t)far[i], "%s", label);
+        }
 }
 
 /* 1,024 starts, of which one is too late. */
 static void far_starts(void)
 {
     static const int late[] = { 0, 255, 256, 999, 1000, 1022, 1023 };
-    clear_tables(&tables);
-    tables.nodes = 1;
-    for (int k = 0; k < 1024; k++)
-        push_path(&tables, 0, 0, 0);
+    ring_job(&job, 1024, 1);
+    tables_of_job(&job, &tables);
     for (size_t i = 0; i < COUNT(late); i++) {
         zero_starts();
         starts.value[late[i]] = 32768;
@@ -486,6 +525,7 @@ void limits(void)
     far_nodes();
     far_links();
     far_packets();
+    far_no_hops();
     far_starts();
     long_inputs();
     limit_nodes();
@@ -571,7 +611,8 @@ static void long_rooms(void)
 /* The reader's lists likewise, and 3,000 places longer than their sizes. The texts are taken, refused for a line, and too long. */
 static void long_reader_lists(void)
 {
-    static const char *const shown[] = { session_a, "N 2\nL 0 1\nP 0 0\n\n", "N 2\nL 0 1\nL 1 0\nP 0 0\nP 0 0 1\n", "" };
+    static const char *const shown[] = { session_a, "N 2\nL 0 1\nP 0 0\n\n", "N 2\nL 0 1\nL 1 0\nP 0 0\nP 0 0 1\n",
+                                         "N 2\nL 0 1\nP 0 0\nP 1\n", "" };
     for (size_t i = 0; i < COUNT(shown); i++) {
         show_text(&text, shown[i]);
         if (text.bytes == 0)
@@ -593,8 +634,8 @@ void rooms(void)
     rooms_of("session A");
     show_job(&job, "N 1\n");
     rooms_of("no packets");
-    show_job(&job, "N 1\nP 0\n");
-    rooms_of("no hops");
+    show_job(&job, "N 2\nL 0 1\nP 0 0\n");
+    rooms_of("one hop");
     show_job(&job, "N 2\nL 0 1\nP 0 0\nP 0 0\nP 0 0\nP 0 0\nP 0 0\nP 0 0\nP 0 0\nP 0 0\nP 0 0\nP 0 0\nP 0 0\nP 0 0\n");
     rooms_of("twelve packets on one link");
     long_plans();
@@ -623,7 +664,8 @@ static void reader_lists_of(const char *name)
 void reader_lists(void)
 {
     static const char *const shown[] = {
-        session_a, "N 1\n", "N 1\nP 0\nP 0\n", "N 2\nL 0 1\n", "N 3\nL 2 1\nL 1 2\nP 2 0\nP 1 1\nP 2\n",
+        session_a, "N 1\n", "N 2\nL 0 1\nP 0 0\nP 0 0\n", "N 2\nL 0 1\n", "N 3\nL 2 1\nL 1 2\nP 2 0\nP 1 1\nP 2 0\n",
+        "N 1\nP 0\nP 0\n", "N 3\nL 2 1\nL 1 2\nP 2 0\nP 1 1\nP 2\n",
         "", "N 2\nL 0 1\nP 0 0\n\n", "N 0\n", "N 2\nL 0 1\nL 2 0\n", "N 2\nL 0 1\nL 1 1\n", "N 2\nL 0 1\nP 0 0\nP 0 1\n",
         "N 2\nL 0 1\nP 0 0\nP 1 0\n", "N 2\nL 0 1\nL 1 0\nP 0 0\nP 0 0 1\n"
     };

@@ -166,9 +166,11 @@ void plan_sessions(void)
     session_plan("", "Q 2 1");
     session_plan("T 0 0 1\n", "Q 14 1");
     session_plan("S 0 0 0\nT 0 0 0\n", "Q 11 0");
-    use_job("N 1\nP 0\n");
-    session_plan("S 0 7 7\nT 7 0 0\n", "clear");
-    session_plan("S 0 7 7\nT 0 0 0\n", "Q 14 2");
+    use_job("N 2\nL 0 1\nP 0 0\n"); /* the least that a packet can be: C and D are 1 */
+    session_plan("S 0 7 8\nT 8 1 1\n", "clear");
+    session_plan("S 0 7 8\nT 1 1 1\n", "Q 14 2");
+    session_plan("S 0 7 8\nT 8 1 0\n", "Q 14 2");
+    session_plan("S 0 7 7\nT 7 1 1\n", "Q 14 1");
     use_job("N 3\nL 0 1\nL 1 2\nP 0 0 1\n"); /* C is 1, and D is 2 */
     session_plan("S 0 4 6\nT 6 1 2\n", "clear");
     session_plan("S 0 4 6\nT 6 2 1\n", "Q 14 2");
@@ -180,6 +182,7 @@ void plan_sessions(void)
     static const struct { const char *shown, *told; } refused[] = {
         { "", "R 2 1" }, { "N 0\n", "R 3 1" }, { "N 2\nL 0 2\n", "R 4 2" }, { "N 2\nL 1 1\n", "R 5 2" },
         { "N 1\nP 0 0\n", "R 6 2" }, { "N 2\nL 0 1\nP 1 0\n", "R 7 3" }, { "N 2\nL 0 1\nL 1 0\nP 0 0 1\n", "R 8 4" },
+        { "N 1\nP 0\n", "R 15 2" }, { "N 1\nP 1\n", "R 4 2" },
     };
     for (size_t i = 0; i < COUNT(refused); i++)
         for (size_t other_plan = 0; other_plan < COUNT(other); other_plan++) {
@@ -193,11 +196,12 @@ void plan_sessions(void)
 
 /* ---- Forms ---- */
 
-/* Texts and places of which the last 16 bits of the length are 0, and texts of one byte less, for one packet without hops. */
+/* Texts and places of which the last 16 bits of the length are 0, and texts of one byte less, for one packet of one hop. */
 static void early_lengths(void)
 {
-    use_job("N 1\nP 0\n");
-    show_text(&plan, "S 0 0 0\nT 0 0 0\n");
+    static const char one_hop[] = "N 2\nL 0 1\nP 0 0\n";
+    use_job(one_hop);
+    show_text(&plan, "S 0 0 1\nT 1 1 1\n");
     name_cases("65,536 places");
     run_read_plan(&tables, &plan, 65536);
     for (int letter = 0; letter < 2; letter++)
@@ -209,13 +213,13 @@ static void early_lengths(void)
             name_cases("plan of %zu bytes, letter %d", bytes, letter);
             run_both();
             name_cases("plan of %zu bytes, letter %d, and no nodes", bytes, letter);
-            use_job("N 1\nP 0\n");
+            use_job(one_hop);
             tables.nodes = 0;
             text.byte[2] = '0';
             run_both();
             name_cases("plan and job of %zu bytes, letter %d", bytes, letter);
             run_check_texts(&plan, &plan, 4);
-            use_job("N 1\nP 0\n");
+            use_job(one_hop);
         }
     use_job("N 2\nL 0 1\nP 0 0\nP 0 0\n");
     show_text(&plan, "S 0 0 1\nS 1 0 1\nT 1 2 1\n");
@@ -223,7 +227,7 @@ static void early_lengths(void)
     run_check_texts(&text, &plan, 65536);
 }
 
-/* Plans in bad form, and some that only look like it, for two packets that have 1 hop and none. */
+/* Plans in bad form, and some that only look like it, for two packets that have a hop each, and not the same. */
 void plan_forms(void)
 {
     static const char *const form[] = {
@@ -235,11 +239,11 @@ void plan_forms(void)
         "S\t4294967296\t0\t1\n", "S\t0\t4294967296\t1\n", "S\t0\t0\t18446744073709551617\n", "S\t0\t0\t1\v\n", "\xD3\t0\t0\t1\n",
         "S\x89" "0\t0\t1\n", "S\t\xB0\t0\t1\n", "\xEF\xBB\xBFS\t0\t0\t1\n", "s\t0\t0\t1\n", "P\t0\t0\t1\n", "T\t0\t0\t1\n", "\n",
         "S\t0\t0\t1\n\n", "S\t0\t0\t1\n#\n", "S\t1\t0\t1\n", "S\t0\t0\t1\nS\t0\t0\t1\n", "S\t0\t0\t1\nS\t2\t0\t0\n",
-        "S\t0\t0\t1\nS\t1\t0\t0\nS\t2\t0\t0\n", "S\t0\t0\t1\nS\t1\t0\t0\nS\t2\t0\t0\nS\t3\t0\t0\n",
-        "S\t0\t0\t1\nS\t1\t0\t0\nS\t2\t0\t0\nS\t4\t0\t0\n", "S\t0\t0\t1\nS\t1\t0\t0\nS\t2\n",
-        "S\t0\t0\t1\nS\t1\t0\t0\nS\t2\t0\t0\nS",
+        "S\t0\t0\t1\nS\t1\t0\t1\nS\t2\t0\t0\n", "S\t0\t0\t1\nS\t1\t0\t1\nS\t2\t0\t0\nS\t3\t0\t0\n",
+        "S\t0\t0\t1\nS\t1\t0\t1\nS\t2\t0\t0\nS\t4\t0\t0\n", "S\t0\t0\t1\nS\t1\t0\t1\nS\t2\n",
+        "S\t0\t0\t1\nS\t1\t0\t1\nS\t2\t0\t0\nS", "S\t0\t0\t1\nS\t1\t0\t0\n",
         /* with one of two, or both, and no end of the line or of the text */
-        "S", "S\t", "S\t0\t0\t1", "S\t0\t0\t1\nS", "S\t0\t0\t1\nS\t1\t0\t0", "S\t0\t0\t1\nS\t1\t0\t0\n",
+        "S", "S\t", "S\t0\t0\t1", "S\t0\t0\t1\nS", "S\t0\t0\t1\nS\t1\t0\t1", "S\t0\t0\t1\nS\t1\t0\t1\n",
     };
     static const char *const last[] = {
         "", "T", "T\n", "T\t1\t1\t1", "T\t1\t1\t1\n", "T\t1\t1\n", "T\t1\n", "T\t\n", "T\t1\t1\t1\t\n", "T\t1\t1\t1\t1\n",
@@ -252,7 +256,7 @@ void plan_forms(void)
         "T\t1\t1\t1\n\nT\t1\t1\t1\n",
     };
     early_lengths();
-    use_job("N 2\nL 0 1\nP 0 0\nP 0\n");
+    use_job("N 3\nL 0 1\nL 1 2\nP 0 0\nP 1 1\n");
     for (size_t i = 0; i < COUNT(form); i++)
         for (int with_t = 0; with_t < 2; with_t++) {
             clear_text(&plan);
@@ -262,7 +266,7 @@ void plan_forms(void)
         }
     for (size_t i = 0; i < COUNT(last); i++) {
         clear_text(&plan);
-        add(&plan, "S\t0\t0\t1\nS\t1\t0\t0\n%s", last[i]);
+        add(&plan, "S\t0\t0\t1\nS\t1\t0\t1\n%s", last[i]);
         name_cases("form %zu of the T line", i);
         run_both();
     }
@@ -366,9 +370,10 @@ enum mistake { TOO_LONG, FORM, NUMBER, FEWER, MORE, T_FORM, T_CUT, T_MISSING, BE
 struct told { int rank; unsigned refusal, value; };
 
 /* Ways in which the job is refused: as lists, and as a text. */
-static const struct told of_lists[] = { { 0, 9, 0 }, { 0, 3, 0 }, { 0, 4, 0 }, { 0, 5, 1 }, { 0, 6, 0 }, { 0, 7, 1 }, { 0, 8, 0 } };
+static const struct told of_lists[] = { { 0, 9, 0 }, { 0, 3, 0 }, { 0, 4, 0 }, { 0, 5, 1 }, { 0, 6, 0 }, { 0, 7, 1 }, { 0, 8, 0 },
+                                        { 0, 15, 2 } };
 static const struct told of_text[] = { { 0, 1, 0 }, { 0, 2, 1 }, { 0, 3, 1 }, { 0, 4, 2 }, { 0, 5, 3 }, { 0, 6, 5 }, { 0, 7, 6 },
-                                       { 0, 8, 5 } };
+                                       { 0, 8, 5 }, { 0, 15, 6 } };
 
 static void spoil_lists(unsigned refusal)
 {
@@ -380,6 +385,7 @@ static void spoil_lists(unsigned refusal)
     case 6: tables.hops.value[0] = 3; break;
     case 7: tables.sources.value[1] = 0; break;
     case 8: tables.ends.value[1] = 0; break;
+    case 15: take_hops(&tables, 2); break;
     }
 }
 
@@ -388,7 +394,7 @@ static void spoil_text(unsigned refusal)
     static const char *const shown[] = {
         [2] = "N\nL 0 1\n", [3] = "N 1025\n", [4] = "N 1\nL 0 1\n", [5] = "N 4\nL 0 1\nL 1 1\n",
         [6] = "N 4\nL 0 1\nL 1 2\nL 2 3\nP 0 3\n", [7] = "N 4\nL 0 1\nL 1 2\nL 2 3\nP 0 0\nP 0 1\n",
-        [8] = "N 2\nL 0 1\nL 1 0\nP 0\nP 0 0 1\n"
+        [8] = "N 2\nL 0 1\nL 1 0\nP 0 0\nP 0 0 1\n", [15] = "N 4\nL 0 1\nL 1 2\nL 2 3\nP 0 0\nP 0\n"
     };
     if (refusal == 1)
         while (text.bytes <= MOST_BYTES)
@@ -528,26 +534,23 @@ static void limit_plan_starts(void)
             }
 }
 
-/* 1,024 packets without hops: each of some lines late, with another end, misnumbered, gone; and a line more. */
+/* 1,024 packets of one hop, each over a link of its own: each of some lines late, with another end, misnumbered, gone; and a line
+ * more. */
 static void far_lines(void)
 {
     static const int far[] = { 0, 255, 256, 999, 1000, 1022, 1023 };
-    static const char *const line[] = { "S\t%d\t32768\t32768\n", "S\t%d\t0\t1\n", "S\t%d\t0\t0\t\n", "S\t1%d\t0\t0\n", "", "\n" };
+    static const char *const line[] = { "S\t%d\t32768\t32769\n", "S\t%d\t0\t0\n", "S\t%d\t0\t1\t\n", "S\t1%d\t0\t1\n", "", "\n" };
     static const struct { unsigned refusal; int at_line; } told[] = { { 12, 1 }, { 14, 1 }, { 2, 1 }, { 2, 1 }, { 2, 1 },
                                                                       { 11, 0 } };
-    clear_text(&text);
-    add(&text, "N\t1\n");
-    for (int k = 0; k < 1024; k++)
-        add(&text, "P\t0\n");
-    if (read_job(text.byte, text.bytes, &job).refusal)
-        abort();
+    ring_job(&job, 1024, 1);
+    text_of_job(&job, &text);
     tables_of_job(&job, &tables);
     for (size_t i = 0; i < COUNT(far); i++)
         for (size_t other = 0; other < COUNT(line); other++) {
             clear_text(&plan);
             for (int k = 0; k < 1024; k++)
-                add(&plan, k == far[i] ? line[other] : "S\t%d\t0\t0\n", k);
-            add(&plan, "T\t0\t0\t0\n");
+                add(&plan, k == far[i] ? line[other] : "S\t%d\t0\t1\n", k);
+            add(&plan, "T\t1\t1\t1\n");
             name_cases("1,024 packets, line %d as %zu", far[i] + 1, other);
             run_both();
             int gone = other == 4 && far[i] == 1023; /* then the others are in order */
@@ -557,8 +560,8 @@ static void far_lines(void)
     for (int lines = 1023; lines <= 1026; lines++) {
         clear_text(&plan);
         for (int k = 0; k < lines; k++)
-            add(&plan, "S\t%d\t0\t0\n", k);
-        add(&plan, "T\t0\t0\t0\n");
+            add(&plan, "S\t%d\t0\t1\n", k);
+        add(&plan, "T\t1\t1\t1\n");
         name_cases("1,024 packets, %d S lines", lines);
         run_both();
         expect(planner.answer.refusal == (lines == 1024 ? 0 : 11), "%s", label);
@@ -707,7 +710,8 @@ void plan_rooms(void)
     nothing_at_all();
     plan_rooms_of("session A", session_a);
     plan_rooms_of("no packets", "N 1\n");
-    plan_rooms_of("no hops", "N 1\nP 0\nP 0\n");
+    plan_rooms_of("one hop", "N 2\nL 0 1\nP 0 0\n");
+    plan_rooms_of("two packets that never meet", "N 3\nL 0 1\nL 1 2\nP 0 0\nP 1 1\n");
     plan_rooms_of("nine packets on one link", "N 2\nL 0 1\nP 0 0\nP 0 0\nP 0 0\nP 0 0\nP 0 0\nP 0 0\nP 0 0\nP 0 0\nP 0 0\n");
 }
 

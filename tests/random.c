@@ -8,8 +8,8 @@
 enum {
     FIRST_JOB = 1000000, JOBS = 12000,
     FIRST_LARGE = 2000000, LARGE = 30,
-    FIRST_TEXT = 3000000, TEXTS = 55000,
-    FIRST_LISTS = 4000000, LISTS = 24000
+    FIRST_TEXT = 3000000, TEXTS = 57000,
+    FIRST_LISTS = 4000000, LISTS = 28000
 };
 
 long gaps;
@@ -31,7 +31,7 @@ static void random_lead(void)
 {
     unsigned packets = (unsigned)job.packets;
     int a = (int)pick(packets + 1), b = (int)pick(packets + 1), link = (int)pick((unsigned)job.links + 1);
-    if (a < job.packets && job.packet[a].hops > 0 && chance(70)) {
+    if (a < job.packets && chance(70)) {
         link = job.packet[a].link[pick((unsigned)job.packet[a].hops)];
         for (int tries = 0; tries < 20 && (b == a || b >= job.packets || place_on_path(&job.packet[b], link) < 0); tries++)
             b = (int)pick(packets);

@@ -1,4 +1,5 @@
-/* sessions.c: the worked sessions of document 01, with the answers that it gives. Those about limits are in limits.c. */
+/* sessions.c: the worked sessions of document 01, with the answers that it gives, or that a later request gives. Those about limits
+ * are in limits.c. */
 #include "cases.h"
 #include "sections.h"
 
@@ -124,7 +125,13 @@ void sessions(void)
 
     session_read("no packets", "N 4\nL 0 1\nL 1 2\nL 2 3\n", 4, (const char *const[]){ "012", "123", "", "", "" });
     session("no packets", "N 4\nL 0 1\nL 1 2\nL 2 3\n", "T 0 0 0\n", "");
-    session("no hops", "N 1\nP 0\n", "S 0 0 0\nT 0 0 0\n", "0");
+    session_read("one hop", "N 2\nL 0 1\nP 0 0\n", 2, (const char *const[]){ "0", "1", "0", "1", "0" });
+    session("one hop", "N 2\nL 0 1\nP 0 0\n", "S 0 0 1\nT 1 1 1\n", "0");
+    session_text("no hops", "N 1\nP 0\n", "R 15 2\n");
+    session_refused("no hops", "N 1\n", 0, 0, 0, 15);
+    session_text("no hops and no such node", "N 1\nP 1\n", "R 4 2\n");
+    session_refused("no hops and no such node", "N 1\n", 1, 0, 0, 4);
+    session_text("no hops above a link that is not there", "N 2\nL 0 1\nL 1 0\nP 0 0\nP 1\nP 0 2\n", "R 15 5\n");
 
     /* what the paper says without a session of its own */
     session("parallel links", "N 2\nL 0 1\nL 0 1\nP 0 0\nP 0 1\n", "S 0 0 1\nS 1 0 1\nT 1 1 1\n", "00");

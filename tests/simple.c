@@ -1,9 +1,9 @@
-/* simple.c: the rules of document 01, and of plans that are read back, each said in a comment and done in the lines below it.
+/* simple.c: the rules of document 01 and of the requests that came later, each said in a comment and done in the lines below it.
  *
  * `planted(NAME)` is 1 while the wrong rule NAME of wrong.h is switched on. To read the rules, take it for 0.
  *
  * Where the order of refusals matters it stands in a string, one character for each thing that is asked: a digit for the refusal of
- * that number, B to E for 11 to 14, and a small letter for a group of them. */
+ * that number, B to F for 11 to 15, and a small letter for a group of them. */
 #include "simple.h"
 #include "wrong.h"
 
@@ -26,6 +26,14 @@ static struct answer value(size_t number) { return (struct answer){ .value = (ui
 static struct answer refuse(int number, size_t place) { return (struct answer){ (uint32_t)number, .value = (uint32_t)place }; }
 
 /* ---- Paths ---- */
+
+/* 15: the path of packet k has no hops. The refusal's number, or 0. */
+static int no_hops(int hops, size_t k)
+{
+    if (hops >= 1 + planted(ONE_HOP) - planted(NO_HOPS) || (planted(NO_HOPS_FROM_1000) && k >= 1000))
+        return 0;
+    return planted(NO_HOPS_IS_3) ? 3 : 15;
+}
 
 /* 6: there is no such link. 7: it begins elsewhere than the packet has come to; a link that there is not begins nowhere. 8: it ends
  * at a node where the packet has been. `node` holds the nodes visited so far, the source first. */
@@ -158,7 +166,7 @@ static int bad_form(const struct line *line)
         return line->letter != 'N' || line->values < 1 || line->values > 1 + extra;
     switch (line->letter) {
     case 'L': return (line->below_packet && !planted(LINK_BELOW_PACKET)) || line->values < 2 || line->values > 2 + extra;
-    case 'P': return line->values < 1;
+    case 'P': return line->values < 1 + planted(NO_HOPS_IS_2);
     }
     return 1;
 }
@@ -208,6 +216,12 @@ static struct packet packet_of_line(const struct line *line)
     return packet;
 }
 
+/* 15: a packet has no hops. */
+static int hops_missing(const struct job *job, const struct line *line)
+{
+    return line->letter == 'P' ? no_hops(line->values - 1, (size_t)job->packets) : 0;
+}
+
 static int hops_refusal(const struct job *job, const struct line *line)
 {
     if (line->letter != 'P')
@@ -216,18 +230,23 @@ static int hops_refusal(const struct job *job, const struct line *line)
     return path_refusal(job, &packet);
 }
 
-/* 2, 3, 4, 5, then h, the hops: the number of the first refusal, or 0. All but h are answered by 1 or 0. */
+/* 2, 3, 4, 5, then F, which is 15, then h, the hops: the number of the first refusal, or 0. 2 to 5 are answered by 1 or 0. For a
+ * wrong rule f is 15 of a packet whose source is a node. */
 static int line_refusal(const struct job *job, const struct line *line)
 {
-    const char *order = planted(TEXT_3_BEFORE_2) ? "3245h"
-                      : planted(TEXT_4_BEFORE_3) ? "2435h"
-                      : planted(TEXT_5_BEFORE_4) ? "2354h"
-                      : planted(TEXT_HOPS_BEFORE_4) ? "23h45" : "2345h";
+    const char *order = planted(TEXT_3_BEFORE_2) ? "3245Fh"
+                      : planted(TEXT_4_BEFORE_3) ? "2435Fh"
+                      : planted(TEXT_5_BEFORE_4) ? "2354Fh"
+                      : planted(TEXT_HOPS_BEFORE_4) ? "23h45F"
+                      : planted(TEXT_15_BEFORE_3) ? "2f345Fh"
+                      : planted(TEXT_15_BEFORE_4) ? "23F45h" : "2345Fh";
     for (; *order; order++) {
         int number = *order == '2' ? 2 * bad_form(line)
                    : *order == '3' ? 3 * over_size(job, line)
                    : *order == '4' ? 4 * no_such_node(job, line)
-                   : *order == '5' ? 5 * to_itself(line) : hops_refusal(job, line);
+                   : *order == '5' ? 5 * to_itself(line)
+                   : *order == 'f' ? no_such_node(job, line) ? 0 : hops_missing(job, line)
+                   : *order == 'F' ? hops_missing(job, line) : hops_refusal(job, line);
         if (number)
             return number;
     }
@@ -254,19 +273,34 @@ static struct answer first_bad_form(const uint8_t *text, size_t bytes)
     return fine();
 }
 
+/* Wrong rule NO_HOPS_FIRST: 15 of a line below, where a packet's line is refused otherwise. */
+static struct answer no_hops_early(struct answer found, const uint8_t *text, size_t bytes, size_t at, struct line line,
+                                   const struct job *job)
+{
+    int early = planted(NO_HOPS_FIRST) && line.letter == 'P' && found.refusal != 15;
+    while (early && next_line(text, bytes, &at, &line))
+        if (line_refusal(job, &line) == 15)
+            return refuse(15, (size_t)line.number);
+    return found;
+}
+
 /* Line after line, down to the first refusal. */
 static struct answer read_lines(const uint8_t *text, size_t bytes, struct job *job)
 {
     struct line line = { 0 };
+    struct answer put_off = fine(); /* by wrong rule NO_HOPS_LAST */
     for (size_t at = 0; next_line(text, bytes, &at, &line);) {
         if (planted(EMPTY_LINE) && line.empty && line.ended)
             continue;
-        int number = line_refusal(job, &line);
-        if (number)
-            return refuse(number, (size_t)(line.number - planted(LINES_FROM_0)));
+        int number = line_refusal(job, &line), next = number == 15 && planted(NO_HOPS_AT_NEXT);
+        struct answer found = refuse(number, (size_t)(line.number - planted(LINES_FROM_0) + next));
+        if (number == 15 && planted(NO_HOPS_LAST))
+            put_off = put_off.refusal ? put_off : found;
+        else if (number)
+            return no_hops_early(found, text, bytes, at, line, job);
         add_line(job, &line);
     }
-    return fine();
+    return put_off;
 }
 
 /* 1: the text is too long. */
@@ -307,11 +341,33 @@ static struct answer disagree(const struct lists *lists)
         || length(lists->sources_count, PACKETS_16_BITS) != length(lists->stops_count, PACKETS_16_BITS))
         return refuse(9, 0);
     for (size_t k = 0; k < lists->stops_count; k++) {
-        if (lists->stops[k] < last)
+        if (lists->stops[k] < last + (size_t)planted(NO_HOPS_IS_9))
             return refuse(9, 0);
         last = lists->stops[k];
     }
     return last != length(lists->hops_count, HOPS_16_BITS) ? refuse(9, 0) : fine();
+}
+
+/* The path of packet k: from the stop before its own, or 0, up to its own stop. */
+static size_t path_begin(const struct lists *lists, size_t k) { return k == 0 ? 0 : lists->stops[k - 1]; }
+static size_t path_length(const struct lists *lists, size_t k) { return lists->stops[k] - path_begin(lists, k); }
+
+/* 4 of packet k: its source is a node that there is not. */
+static int no_source(const struct lists *lists, size_t k) { return lists->sources[k] >= lists->nodes + OFF(NODE_NUMBER); }
+
+/* 15 of packet k. */
+static int path_missing(const struct lists *lists, size_t k)
+{
+    return planted(NO_HOPS_AT_0_UNSEEN) && k == 0 ? 0 : no_hops((int)path_length(lists, k), k);
+}
+
+/* Wrong rules LISTS_15_BEFORE_3, NO_HOPS_FIRST and NO_HOPS_LAST: 15 of the first packet, from k on, whose source is a node. */
+static struct answer first_missing(const struct lists *lists, size_t k)
+{
+    for (; k < lists->sources_count; k++)
+        if (!no_source(lists, k) && path_missing(lists, k))
+            return refuse(15, k);
+    return fine();
 }
 
 /* 3: too many nodes or none, too many links, packets, or hops together. */
@@ -320,8 +376,10 @@ static struct answer sizes(const struct lists *lists)
     if ((lists->nodes < 1 && !planted(NO_NODES)) || lists->nodes > MOST_NODES + OFF(NODES)
         || lists->origins_count > (size_t)(MOST_LINKS + OFF(LINKS))
         || lists->sources_count > (size_t)(MOST_PACKETS + OFF(PACKETS))
-        || lists->hops_count > (size_t)(MOST_HOPS + OFF(HOPS)))
-        return refuse(3, 0);
+        || lists->hops_count > (size_t)(MOST_HOPS + OFF(HOPS))) {
+        struct answer early = planted(LISTS_15_BEFORE_3) ? first_missing(lists, 0) : fine();
+        return early.refusal ? early : refuse(3, 0);
+    }
     return fine();
 }
 
@@ -345,10 +403,6 @@ static struct answer links(const struct lists *lists)
     return early.refusal ? early : each_link(lists, planted(LISTS_5_BEFORE_4) ? "54" : "45");
 }
 
-/* The path of packet k: from the stop before its own, or 0, up to its own stop. */
-static size_t path_begin(const struct lists *lists, size_t k) { return k == 0 ? 0 : lists->stops[k - 1]; }
-static size_t path_length(const struct lists *lists, size_t k) { return lists->stops[k] - path_begin(lists, k); }
-
 static struct packet packet_of_lists(const struct lists *lists, size_t k)
 {
     struct packet packet = { .source = lists->sources[k], .hops = (int)path_length(lists, k) };
@@ -360,7 +414,8 @@ static struct packet packet_of_lists(const struct lists *lists, size_t k)
 /* What the lists say, as a job: the packets are taken up one by one as they are found in order. */
 static struct job the_job;
 
-/* Packet after packet, and of each what the order says: 3 for a path that is too long, 4 for the source, h for the hops. */
+/* Packet after packet, and of each what the order says: 3 for a path that is too long, 4 for the source, F for 15, h for the
+ * hops. */
 static struct answer each_packet(const struct lists *lists, const char *order)
 {
     the_job.nodes = lists->nodes;
@@ -375,10 +430,10 @@ static struct answer each_packet(const struct lists *lists, const char *order)
             packet = packet_of_lists(lists, k);
         for (const char *rule = order; *rule; rule++) {
             int number = *rule == '3' ? 3 * too_long
-                       : *rule == '4' ? 4 * (lists->sources[k] >= lists->nodes + OFF(NODE_NUMBER))
-                       : path_refusal(&the_job, &packet);
+                       : *rule == '4' ? 4 * no_source(lists, k)
+                       : *rule == 'F' ? path_missing(lists, k) : path_refusal(&the_job, &packet);
             if (number)
-                return refuse(number, k);
+                return refuse(number, k + (size_t)(number == 15 && planted(NO_HOPS_AT_NEXT)));
         }
         the_job.packet[the_job.packets++] = packet;
     }
@@ -390,7 +445,14 @@ static struct answer packets(const struct lists *lists)
     struct answer early = planted(LISTS_PACKETS_RULE_BY_RULE) ? each_packet(lists, "34") : fine();
     if (early.refusal)
         return early;
-    return each_packet(lists, planted(LISTS_4_BEFORE_3) ? "43h" : planted(LISTS_HOPS_BEFORE_4) ? "3h4" : "34h");
+    struct answer found = each_packet(lists, planted(LISTS_4_BEFORE_3) ? "43Fh"
+                                           : planted(LISTS_HOPS_BEFORE_4) ? "3h4F"
+                                           : planted(LISTS_15_BEFORE_4) ? "3F4h"
+                                           : planted(NO_HOPS_LAST) ? "34h" : "34Fh");
+    int otherwise = found.refusal && found.refusal != 15;
+    struct answer missing = planted(NO_HOPS_FIRST) && otherwise ? first_missing(lists, found.value + 1)
+                          : planted(NO_HOPS_LAST) && !otherwise ? first_missing(lists, 0) : fine();
+    return missing.refusal ? missing : found;
 }
 
 /* 9; then 3; then l, the links; then p, the packets. Without a refusal the_job is the job. */
@@ -530,7 +592,7 @@ static int most_on_one_link(const struct job *job)
     return most;
 }
 
-/* D: how many hops the longest path has. */
+/* D: how many hops the longest path has: 0 without packets. */
 static int longest_path(const struct job *job)
 {
     int most = 0;

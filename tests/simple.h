@@ -1,4 +1,4 @@
-/* simple.h: the rules of document 01, and of plans that are read back, once more, written to be read and not to be fast.
+/* simple.h: the rules of document 01 and of the requests that came later, once more, written to be read and not to be fast.
  *
  * Nothing here looks at the planner under test. Starts are found with a timetable for each link: a packet tries 0, 1, 2 and so on
  * until none of its links has somebody in the step in which it would enter. */
@@ -23,7 +23,8 @@ enum {
     CLASH_NUMBERS = 4       /* packet, earlier packet, link, step */
 };
 
-/* A job. There is room for one more of each thing than is allowed, for the wrong rules that let it pass. */
+/* A job. A packet has 1 to MOST_PATH_HOPS hops. There is room for one more of each thing than is allowed, for the wrong rules that
+ * let it pass. */
 struct link { int from, to; };
 struct packet { int source, hops, link[MOST_PATH_HOPS + 1]; };
 struct job {

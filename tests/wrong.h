@@ -48,6 +48,8 @@ enum {
     X(TEXT_4_BEFORE_3, BY_TEXT, "text: 4 before 3 on a line") \
     X(TEXT_5_BEFORE_4, BY_TEXT, "text: 5 before 4 on a line") \
     X(TEXT_HOPS_BEFORE_4, BY_TEXT, "text: the hops before 4 on a line") \
+    X(TEXT_15_BEFORE_3, BY_TEXT, "text: 15 before 3 on a line") \
+    X(TEXT_15_BEFORE_4, BY_TEXT, "text: 15 before 4 on a line") \
     X(TEXT_FORM_FIRST, BY_TEXT, "text: bad form further down before any other refusal further up") \
     /* ... paths */ \
     X(PATH_7_BEFORE_6, BY_ALL, "path: 7 before 6 at a hop") \
@@ -61,7 +63,12 @@ enum {
     X(LISTS_LINKS_RULE_BY_RULE, BY_LISTS, "lists: 4 of all links before 5 of any") \
     X(LISTS_4_BEFORE_3, BY_LISTS, "lists: 4 before 3 of a packet") \
     X(LISTS_HOPS_BEFORE_4, BY_LISTS, "lists: the hops before 4 of a packet") \
+    X(LISTS_15_BEFORE_3, BY_LISTS, "lists: 15 of any packet before the sizes") \
+    X(LISTS_15_BEFORE_4, BY_LISTS, "lists: 15 before 4 of a packet") \
     X(LISTS_PACKETS_RULE_BY_RULE, BY_LISTS, "lists: 3 and 4 of all packets before the hops of any") \
+    /* ... packets without hops */ \
+    X(NO_HOPS_FIRST, BY_ALL, "15 of a packet before all else of the packets above it") \
+    X(NO_HOPS_LAST, BY_ALL, "15 of a packet after all else of the packets below it") \
     /* ... after them */ \
     X(ROOM_FIRST, BY_LENT, "10 before every other refusal") \
     X(ROOM_BEFORE_12, BY_CHECKS | BY_PLAN_TEXT | BY_READ_PLAN, "10 before 12") \
@@ -81,11 +88,14 @@ enum {
     OFF_BY_ONE(X, NODE_NUMBER, BY_ALL, "a node's number") \
     OFF_BY_ONE(X, LINK_NUMBER, BY_ALL, "a link's number") \
     X(NO_NODES, BY_ALL, "nodes: none at all passes") \
+    X(NO_HOPS, BY_ALL, "hops of a path: none at all passes") \
+    X(ONE_HOP, BY_ALL, "hops of a path: a single one is refused by 15") \
     /* rules that hold up to some number below a limit, and then no more */ \
     X(HOPS_FROM_200_FREE, BY_PLANNERS | BY_CHECKS, "hops from 200 on never conflict") \
     X(PACKETS_FROM_1000_AT_0, BY_PLANNERS, "packets from 1,000 on start at 0") \
     X(VISITED_200, BY_ALL, "8 is seen only of the last 200 nodes visited") \
     X(LATE_FROM_1000_UNSEEN, BY_GIVEN, "12 is not seen from packet 1,000 on") \
+    X(NO_HOPS_FROM_1000, BY_ALL, "15 is not seen from packet 1,000 on") \
     X(READ_1000_PAST_CLEARED, BY_READ, "reader: of the places past a list's size only 1,000 are cleared") \
     /* lengths of which only 16 bits are looked at */ \
     X(TEXT_16_BITS, BY_TEXT, "16 bits of a text's length") \
@@ -105,6 +115,11 @@ enum {
     /* places and answers */ \
     X(LINES_FROM_0, BY_TEXT, "lines are counted from 0") \
     X(LATE_AT_HIGHEST, BY_GIVEN, "12 at the highest packet, not at the lowest") \
+    X(NO_HOPS_AT_NEXT, BY_ALL, "15 at the line or packet after the one without hops") \
+    X(NO_HOPS_AT_0_UNSEEN, BY_LISTS, "lists: 15 is not seen of packet 0, which has no stop before its own") \
+    X(NO_HOPS_IS_3, BY_ALL, "a packet without hops is refused by 3") \
+    X(NO_HOPS_IS_2, BY_TEXT, "text: a packet without hops is refused by 2") \
+    X(NO_HOPS_IS_9, BY_LISTS, "lists: equal stops are refused by 9") \
     X(C_AND_D_SWAPPED, BY_COUNTS, "C and D are swapped") \
     X(CLASH_HIGHEST_PACKET, BY_CHECKS, "the highest clashing packet is shown") \
     X(CLASH_LAST_HOP, BY_CHECKS, "the last clashing hop is shown") \
