@@ -49,11 +49,13 @@ static inline int judge_link(unsigned a, unsigned b)
     return a >= nodes || b >= nodes ? 4 : a == b ? 5 : 0;
 }
 
-/* The hops of a path from its source on; each link's load grows by them. */
+/* A packet's source, that it has hops, and each of them; each link's load grows by these. */
 static inline int judge_path(const uint16_t *from, const uint16_t *to, unsigned node, const uint16_t *own, unsigned count)
 {
     if (node >= nodes)
         return 4;
+    if (count == 0)
+        return 15;
     if (++visit == 0) { /* once in four thousand million visits */
         memset(visited, 0, sizeof visited);
         visit = 1;

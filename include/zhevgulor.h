@@ -35,11 +35,13 @@
  *   13  | a lead of a packet over itself, of a packet that does not exist,  |                 | 0
  *       | or on a link that is not on both paths                            |                 |
  *   14  | a plan's line does not follow from its starts                     | the line        |
+ *   15  | a packet has no hops: it would go nowhere                         | the line        | the packet
  *
  * If several things are wrong, one is told. In a job's text: 1; else the first line with trouble, and on it the lowest number, but
  * of 6, 7 and 8 the one at the earliest hop. In lists: 9; else 3 with place 0; else the first link with trouble, 4 before 5; else
- * the first packet with trouble, 3 before 4 before its hops, and these as in a text. Only then 11, then 12, then 13; and 10 after
- * everything else, but in zhevgulor_read after 1 and before the lines. A plan's text is looked at after its job, and before 10:
+ * the first packet with trouble: 3, then 4, then 15 if it has no hops, and otherwise its hops as in a text. Only then 11, then 12,
+ * then 13; and 10 after everything else, but in zhevgulor_read after 1 and before the lines. A plan's text is looked at after its
+ * job, and before 10:
  *   1;
  *   else 2, of the lines from the top up to the first that does not begin with S: at the first that is not an S line of a plan, is
  *     not ended by a line feed, or does not name the packet whose turn it is, which is packet 0 on line 1;
@@ -90,12 +92,13 @@
 extern "C" {
 #endif
 
-/* The most of each thing that a job may have. It has at least one node; of links, packets and hops it may have none. */
+/* The most of each thing that a job may have. It has at least one node, and each packet has at least one hop; of links and packets
+ * a job may have none. */
 #define ZHEVGULOR_TEXT_BYTES   65535 /* bytes of its text, and of a plan's */
 #define ZHEVGULOR_NODES        1024
 #define ZHEVGULOR_LINKS        4096  /* each one-way */
 #define ZHEVGULOR_PACKETS      1024
-#define ZHEVGULOR_PATH_HOPS    255   /* hops of one path */
+#define ZHEVGULOR_PATH_HOPS    255   /* hops of one path, which has 1 at least */
 #define ZHEVGULOR_HOPS         16384 /* hops of all paths together */
 
 #define ZHEVGULOR_LATEST_START 32767 /* the latest start that is taken from outside */
@@ -140,12 +143,13 @@ typedef struct {
     uint32_t value;
 } zhevgulor_texts_answer;
 
-/* From a job's text to its plan's text. On success `value` is the number of bytes written to `room`. It refuses by 1 to 8, or by 10.
+/* From a job's text to its plan's text. On success `value` is the number of bytes written to `room`. It refuses by 1 to 8, by
+ * 15, or by 10.
  *
  * The job, with one tab between two fields and one line feed after every line, the last one too:
  *     N  number of nodes                     one line, the first
  *     L  node it leaves  node it enters      one line for each link, in order
- *     P  source  links of the path ...       one line for each packet, in order, below all L lines
+ *     P  source  links of the path ...       one line for each packet, in order, below all L lines; one link at least
  * Numbers are decimal, without sign or leading zero, and at most 65535.
  *
  * The plan, written likewise:
@@ -157,8 +161,8 @@ zhevgulor_answer zhevgulor_plan(const uint8_t *job, size_t job_bytes, uint8_t *r
 /* Does a plan, whoever wrote it, keep all packets of its job apart? Both come as texts, written as zhevgulor_plan has them. On
  * success `text` is 0, and `value` is 0 or ZHEVGULOR_CLASH, with the clash in `clash`, as zhevgulor_check has them.
  *
- * It refuses by 1 to 8 with `text` ZHEVGULOR_JOB, as zhevgulor_plan does; else by 1, 2, 11, 12 or 14 with `text` ZHEVGULOR_PLAN;
- * else, exactly if there is a clash and `clash` has fewer than ZHEVGULOR_CLASH elements, by 10 with `text` 0.
+ * It refuses by 1 to 8 or 15 with `text` ZHEVGULOR_JOB, as zhevgulor_plan does; else by 1, 2, 11, 12 or 14 with `text`
+ * ZHEVGULOR_PLAN; else, exactly if there is a clash and `clash` has fewer than ZHEVGULOR_CLASH elements, by 10 with `text` 0.
  *
  *     uint32_t clash[ZHEVGULOR_CLASH];
  *     zhevgulor_texts_answer told = zhevgulor_check_texts(job, job_bytes, plan, plan_bytes, clash, ZHEVGULOR_CLASH);
@@ -176,7 +180,8 @@ zhevgulor_texts_answer zhevgulor_check_texts(const uint8_t *job, size_t job_byte
 
 /* A job as lists. Link i goes from node origins[i] to node ends[i]. Packet k sets out at node sources[k]; the links of its path
  * stand in `hops` from where the path of packet k - 1 stops (from 0 for packet 0) up to, not including, position stops[k].
- * The last stop is therefore the number of hops. */
+ * The last stop is therefore the number of hops. Every path has a hop, so stops[0] is at least 1 and every other stop is greater
+ * than the one before it: an equal one is 15, a smaller one 9. */
 #define ZHEVGULOR_LISTS \
     uint16_t nodes, \
     const uint16_t *origins, size_t origins_count, \
@@ -193,8 +198,8 @@ zhevgulor_texts_answer zhevgulor_check_texts(const uint8_t *job, size_t job_byte
  * All elements behind them are 0, to the end of each lent list.
  *
  * It refuses by 1; else by 10 unless each list could take the greatest job, whatever this job needs: ZHEVGULOR_LINKS
- * elements for origins and for ends, ZHEVGULOR_PACKETS for sources and for stops, ZHEVGULOR_HOPS for hops; else by 2 to 8, as
- * zhevgulor_plan does. Refused by 1 or 10, it leaves the lists as they were. Refused by any other number, it has set every element
+ * elements for origins and for ends, ZHEVGULOR_PACKETS for sources and for stops, ZHEVGULOR_HOPS for hops; else by 2 to 8 or 15,
+ * as zhevgulor_plan does. Refused by 1 or 10, it leaves the lists as they were. Refused by any other number, it has set every element
  * of every list to 0.
  *
  * What was read is always a job, and can be handed to all functions below:

@@ -11,7 +11,7 @@ Status: 0 a plan; 1 a refusal; 2 the command was used wrongly, or the system fai
 A job is text, with one tab between two fields and one line feed at the end of every line:
   N  nodes               the first line
   L  from  to            a line for each link
-  P  source  links ..    a line for each packet
+  P  source  links ..    a line for each packet, with one link at least
 docs/RULES.md has all the rules, and examples/ has jobs to try."""
 import subprocess, sys
 import commands, programs, refusal_words

@@ -69,7 +69,7 @@ def bad_form(n, line, last, above):
             return words if isinstance(words, str) else words(n, line, above)
     return 'it is not written as a line of a job is'
 
-# ---- 3 to 8: what a line says
+# ---- 3 to 8, and 15: what a line says
 
 
 def size(n, line, above):
@@ -106,7 +106,10 @@ def path_trouble(n, line, above):
         visited.append(end)
     return 'the path cannot be gone'
 
-SAYS = {3: size, 4: no_node, 5: lambda n, line, above: 'the link enters the node that it leaves', 6: path_trouble, 7: path_trouble, 8: path_trouble}
+SAYS = {
+    3: size, 4: no_node, 5: lambda n, line, above: 'the link enters the node that it leaves', 6: path_trouble, 7: path_trouble, 8: path_trouble,
+    15: lambda n, line, above: f'the packet has no hops, so it would go nowhere: behind the source a P line has 1 to {PATH} links',
+}
 
 
 def explained(number, n, job):
