@@ -13,8 +13,7 @@ A group has blocks, parted by blank lines. A block is one mistake:
 A mistake in the body of a function has no `shows:` line: it must show there, and a group has at most one for each function. A mistake
 anywhere else, as in a constant, a contract or a definition, shows in whatever cites it: it names one function or theorem that must show
 it, and stands alone in its group. Constants that only bodies name may share a group, if what must show each names no other of them. So
-may promises, that is data definitions of specs/, each shown by a theorem into which no other of them comes. So each mistake shows by
-itself: nothing but itself touches what must show it.
+each mistake shows by itself: nothing but itself touches what must show it.
 
 A mistake changes operands and leaves the code's form. Where it adds or takes away a step of a function whose proof is written by hand,
 that proof would be refused after a harmless change too; such a mistake says in a `form:` line why it is one, for a reader to judge."""
@@ -203,69 +202,6 @@ def constant(one, folder):
     return name if outside == 1 else None
 
 
-Block = namedtuple('Block', 'name file kind head text used')  # a definition or theorem; kind: data, abbrev or other; head: its type
-
-
-def blocks(folder, part):
-    """The definitions and theorems of a crate's specs/ or proofs/, but for the proofs of functions. rt fmt lays them out: they begin in
-    the first column or, in a module, in the third, and what a type or a proof has inside stands further in."""
-    found = []
-    for path in sorted(glob.glob(f'{folder}/{part}/*.antt')):
-        name = kind = None
-        whole = re.sub(r'^ *--.*\n', '', open(path, encoding='utf-8').read(), flags=re.M)
-        used = ' '.join(re.findall(r'^use .*', whole, re.M))
-        for line in whole.split('\n') + ['module']:
-            typed = re.match(r'(?:pub )?(?:data|record) (\S+)', line)
-            told = re.match(r'(?:  )?((?:pub |unfoldable |abbrev )*)([^\s(){}:]+) :', line)
-            inside = kind == 'data' and line.startswith(' ')
-            if typed or line.startswith('module') or told and not inside:
-                if name:
-                    head = re.split(rf'\n *(?:unfolding\b|{re.escape(name)}\b(?! :))', text, maxsplit=1)[0]
-                    found.append(Block(name, os.path.relpath(path, folder), kind, text if kind != 'other' else head, text, used))
-                name, text = (typed[1] if typed else told[2] if told else None), ''
-                kind = 'data' if typed else 'abbrev' if told and 'abbrev' in told[1] else 'other'
-            if name:
-                text += line + '\n'
-    return found
-
-
-def has(text, name):
-    """Whether a text has a name. Names may have dashes in them."""
-    return re.search(rf'(?<![\w′-]){re.escape(name)}(?![\w′-])', text)
-
-
-def cites(block, named, text):
-    """Whether a part of a block's text names this definition or theorem, a data's cases too, where its file knows the name."""
-    cases = re.findall(r'^  (?:pub )?([^\s(){}:]+) :', named.text, re.M) if named.kind == 'data' else []
-    return any(has(text, name) and (block.file == named.file or has(block.used, name)) for name in [named.name, *cases])
-
-
-def promise(one, folder):
-    """The data definition of specs/ that a mistake changes, if it changes nothing else, and the definitions there that it comes into."""
-    known = blocks(folder, 'specs')
-    held = {block for file, old, _ in one.pairs for block in known if file == block.file and block.kind == 'data' and old in block.text}
-    if len(held) != 1 or any(not file.startswith('specs/') for file, _, _ in one.pairs):
-        return None
-    found, more = set(), held
-    while more:
-        found |= more
-        more = {block for block in known if block not in found and any(cites(block, named, block.text) for named in more)}
-    return found
-
-
-def reach(name, folder, promised):
-    """Whether what a mistake changes comes into a theorem, as far as types go: into its own text, into the types of those theorems of the
-    crate that it names, or into what these types abbreviate."""
-    known = blocks(folder, 'proofs')
-    seen, more = set(), [(block, block.text) for block in known if block.name == name]
-    while more:
-        if any(cites(block, named, text) for block, text in more for named in promised):
-            return True
-        seen |= {block for block, _ in more}
-        more = [(named, named.head) for named in known if named not in seen and any(cites(block, named, text) for block, text in more)]
-    return False
-
-
 def theorem(name, folder):
     """The file that states a theorem of that name, outside the proofs of functions."""
     for path in sorted(glob.glob(f'{folder}/proofs/*.antt') + glob.glob(f'{folder}/specs/*.antt')):
@@ -283,7 +219,7 @@ def showers(found, folder):
     for f in crate_functions(folder).values():
         text = texts.get(f.file) or open(f'{folder}/{f.file}', encoding='utf-8').read()
         code[f.name] = '\n'.join(bare(text).split('\n')[f.first - 1:f.last])
-    shown, changed, promised = {}, {}, {}
+    shown, changed = {}, {}
     for one in found:
         held = holders[one.name]
         if held and one.shows:
@@ -298,8 +234,7 @@ def showers(found, folder):
                           ' shows it')
         if not held:
             changed[one.name] = constant(one, folder)
-            promised[one.name] = promise(one, folder)
-            if len(found) > 1 and not changed[one.name] and not (promised[one.name] and not any(holders.values())):
+            if not changed[one.name] and len(found) > 1:
                 raise Trouble(f'{place(one)}: what it changes shows wherever it is cited, so it has to stand alone in its group')
         name = held or one.shows
         if name in code:
@@ -320,9 +255,6 @@ def showers(found, folder):
         for other, its in changed.items():
             if other != one.name and its and re.search(rf'\b{its}\b', code.get(shown[one.name][0], '')):
                 raise Trouble(f'{place(one)}: {shown[one.name][0]}, which must show it, names {its} too, which {other} changes')
-        for other, theirs in promised.items():
-            if other != one.name and theirs and len(found) > 1 and reach(shown[one.name][0], folder, theirs):
-                raise Trouble(f'{place(one)}: into {shown[one.name][0]}, which must show it, comes what {other} changes')
     return shown
 
 

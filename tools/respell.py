@@ -150,7 +150,7 @@ def respelling(root):
     own = crates(root)
     skip = foreign(root, own)
     functions, laws = defined(root)
-    known = {snake(f).replace("-", "_") for f in functions} | LIBRARY
+    known = ({snake(f).replace("-", "_") for f in functions} | LIBRARY) - {"of"}
     names = set()
     for path in files(root, (".antt",)):
         if not of_a_function(path):

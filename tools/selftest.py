@@ -36,40 +36,6 @@ pub fn both() -> u32
     MOST + LEAST
 }
 """
-SPECS = """use lib.{}
-
-pub data Plan (n : ℕ) : Type 0 where
-  -- a day is told
-  day : n ≡ 7 → Plan n
-
-pub data Check (n : ℕ) : Type 0 where
-  hour : n ≡ 9 → Check n
-
-abbrev pub Checks : ℕ → Type 0
-Checks n = Check n
-"""
-KEPT = """use specs.{Plan, day, Check, hour, Checks}
-
-pub plan-kept : (n : ℕ) → Plan n → n ≡ 7
-plan-kept n (day e) = e
-
-seven : (n : ℕ) → n ≡ 7 → Plan n
-seven n e = day e
-
--- of Plan nothing is said
-pub check-kept : (n : ℕ) → Check n → n ≡ 9
-check-kept n (hour e) = e
-
-pub checks-kept : (n : ℕ) → Checks n → n ≡ 9
-checks-kept n (hour e) = e
-
-pub both-kept : (n : ℕ) → n ≡ 7 → n ≡ 7
-both-kept n e = plan-kept n (seven n e)
-"""
-DAY = '# eight: a day is told of 8\n# shows: plan-kept\nfile: specs/Said.antt\nold: n ≡ 7\nnew: n ≡ 8\n'
-HOUR = '# ten: an hour is told of 10\n# shows: check-kept\nfile: specs/Said.antt\nold: n ≡ 9\nnew: n ≡ 10\n'
-FACTS = ''.join(f'IN/proofs/Kept.antt:3:5: error: `{name}`: expected type `n ≡ 7`, but this has type `n ≡ 8`\n'
-                for name in ('plan-kept', 'check-kept'))
 ONE = '# one: one less\nfile: src/lib.rt\nold:     a + 1 - 1\nnew:     a + 1 - 2\n'
 TWO = '# two: two more\nfile: src/lib.rt\nold:     a + 2 - 2\nnew:     a + 2 - 0\n'
 SEVEN = '# seven: not seven\n# shows: most\nfile: src/lib.rt\nold: MOST: u32 = 7;\nnew: MOST: u32 = 8;\n'
@@ -104,20 +70,17 @@ def toy(folder, groups, logs, source=TOY):
     for name, group in groups.items():
         write(f'{folder}/crates/toy/must-fail/{name}.edit', group)
     write(f'{folder}/crates/toy/src/lib.rt', source)
-    os.makedirs(f'{folder}/crates/toy/specs')
-    write(f'{folder}/crates/toy/specs/Said.antt', SPECS)
     for proved in ('first', 'third'):
         os.makedirs(f'{folder}/crates/toy/proofs/{proved}')
         write(f'{folder}/crates/toy/proofs/{proved}/Proof.antt', '')
-    write(f'{folder}/crates/toy/proofs/Kept.antt', KEPT)
     for name, log in logs.items():
         copy = f'{folder}/target/must-fail/toy/{name}'
         shutil.copytree(f'{folder}/crates/toy/proofs', f'{copy}/proofs')
-        for file, text in (('src/lib.rt', source), ('specs/Said.antt', SPECS)):
-            for changed, old, new in re.findall('^file: (.*)\nold: (.*)\nnew: (.*)$', groups[name], re.M):
-                text = text.replace(old, new) if changed == file else text
-            os.makedirs(f'{copy}/{os.path.dirname(file)}')
-            write(f'{copy}/{file}', text)
+        os.makedirs(f'{copy}/src')
+        edited = source
+        for old, new in re.findall('^old: (.*)\nnew: (.*)$', groups[name], re.M):
+            edited = edited.replace(old, new)
+        write(f'{copy}/src/lib.rt', edited)
         write(f'{copy}/.log', log.replace('IN', copy) + END)
 
 
@@ -170,13 +133,6 @@ def run(page):
         ('a step more, with its reason', alone(FORM), {'g': FACT_ONE}, nothing, None),
         ('a reason for no step more', alone(FORM.replace('- 3 + 1', '- 2')), {}, nothing, 'no "# form:" line'),
         ('a contract beside another mistake', alone(f'{ONE}\n{CONTRACT}'), {}, nothing, 'has to stand alone'),
-        ('two promises, each with its theorem', alone(f'{DAY}\n{HOUR}'), {'g': FACTS}, nothing, None),
-        ('two promises, one without its fact', alone(f'{DAY}\n{HOUR}'), {'g': FACTS.split('\n')[0] + '\n'}, nothing, 'ten: check-kept shows no fact'),
-        ('a promise shown by a theorem with another promise in a type that it cites', alone(f'{DAY}\n{HOUR}'.replace('shows: check-kept', 'shows: both-kept')), {},
-         nothing, 'into both-kept, which must show it, comes what eight changes'),
-        ('two promises that one theorem shows', alone(f'{DAY}\n{HOUR}'.replace('shows: plan-kept', 'shows: checks-kept')), {}, nothing,
-         'into checks-kept, which must show it, comes what ten changes'),
-        ('a promise beside a body', alone(f'{ONE}\n{DAY}'), {}, nothing, 'has to stand alone'),
         ('a broken proof', alone(ONE.replace('src/lib.rt', 'proofs/first/Proof.antt')), {}, nothing, 'a broken proof is no mistake'),
         ('two functions with one proof', *both, lambda folder: os.rename(f'{folder}/crates/toy/proofs/first', f'{folder}/crates/toy/proofs/+first+second'),
          'shows in the same proof'),

@@ -81,8 +81,8 @@ at_snoc (z ∷ xs) y zero e = inl e
 at_snoc (z ∷ xs) y (suc i) e = ⊎_map (λ a. a) (λ b. (ap suc b.0, b.1)) (at_snoc xs y i e)
 
 -- a list of no length is empty
-pub nil-of-length : {A : Type 0} (xs : List A) → length xs ≡ 0 → [] ≡ xs
-nil-of-length xs e = rw e at (take-length xs)
+pub nil_of_length : {A : Type 0} (xs : List A) → length xs ≡ 0 → [] ≡ xs
+nil_of_length xs e = rw e at (take-length xs)
 
 pub take-map : {A B : Type 0} (f : A → B) (n : ℕ) (xs : List A) → take n (map f xs) ≡ map f (take n xs)
 take-map f zero xs = refl

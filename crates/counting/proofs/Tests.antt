@@ -17,13 +17,13 @@ pub false_of_not_true : (b : Bool) → (b ≡ true → ⊥) → b ≡ false
 false_of_not_true true h = absurd (h refl)
 false_of_not_true false h = refl
 
-pub same-of-iff : (a b : Bool) → (a ≡ true → b ≡ true) → (b ≡ true → a ≡ true) → a ≡ b
-same-of-iff true b f g = sym (f refl)
-same-of-iff false true f g = g refl
-same-of-iff false false f g = refl
+pub same_of_iff : (a b : Bool) → (a ≡ true → b ≡ true) → (b ≡ true → a ≡ true) → a ≡ b
+same_of_iff true b f g = sym (f refl)
+same_of_iff false true f g = g refl
+same_of_iff false false f g = refl
 
 pub eqb_comm : (a b : ℕ) → eqb a b ≡ eqb b a
-eqb_comm a b = same-of-iff _ _ (λ e. eq-eqb b a (sym (eqb-true a b e))) (λ e. eq-eqb a b (sym (eqb-true b a e)))
+eqb_comm a b = same_of_iff _ _ (λ e. eq-eqb b a (sym (eqb-true a b e))) (λ e. eq-eqb a b (sym (eqb-true b a e)))
 
 pub and_left : (a b : Bool) → (a && b) ≡ true → a ≡ true
 and_left true b e = refl
@@ -80,7 +80,7 @@ module _ {A B : Type 0} where
       any_mem (λ y. any_of (λ x. f x y) xs) y.1 (any_mem (λ z. f z y.0) x.1 y.2)
 
 pub any_swap : {A B : Type 0} (f : A → B → Bool) (xs : List A) (ys : List B) → any_of (λ x. any_of (f x) ys) xs ≡ any_of (λ y. any_of (λ x. f x y) xs) ys
-any_swap f xs ys = same-of-iff _ _ (any_turn f xs ys) (any_turn (λ y x. f x y) ys xs)
+any_swap f xs ys = same_of_iff _ _ (any_turn f xs ys) (any_turn (λ y x. f x y) ys xs)
 
 -- a number of the list fails a test that none of them passes
 pub among_none : (f : ℕ → Bool) (ns : List ℕ) (n : ℕ) → any_of f ns ≡ false → among n ns ≡ true → f n ≡ false

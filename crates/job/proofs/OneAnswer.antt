@@ -7,7 +7,7 @@ use lib.Dec.{eqb}
 use Rattle.counting.specs.Count.{pick}
 use Rattle.rules.specs.Outcome.{is, refused, Verdict as Ruled}
 use Rattle.job.specs.declared.Refusal.{Refusal}
-use Rattle.job.specs.declared.Refusal.TheVariants.{TextTooLong, BadForm, Size, NoNode, SelfLink, NoLink, NotLeaving, Revisited, Disagree, ShortRoom, StartCount, LateStart, NoSuch, NotFollowing, NoHops}
+use Rattle.job.specs.declared.Refusal.TheVariants.{TextTooLong, BadForm, Size, NoNode, SelfLink, NoLink, NotLeaving, Revisited, Disagree, ShortRoom, StartCount, LateStart, NoLead, NotFollowing, NoHops}
 use Rattle.job.specs.declared.Verdict.{Verdict}
 use Rattle.job.specs.declared.Verdict.TheVariants.{Fine, Refused}
 use Rattle.job.specs.Told.{number_place, verdict_of}
@@ -27,7 +27,7 @@ numbered n p =
     (pick (eqb n 10) ShortRoom
     (pick (eqb n 11) StartCount
     (pick (eqb n 12) (LateStart p)
-    (pick (eqb n 13) NoSuch
+    (pick (eqb n 13) NoLead
     (pick (eqb n 14) (NotFollowing p) (NoHops p))))))))))))))
 
 pub numbered_refusal : (r : Refusal) → numbered (number_place r).0 (number_place r).1 ≡ r
@@ -43,7 +43,7 @@ numbered_refusal Disagree = refl
 numbered_refusal ShortRoom = refl
 numbered_refusal StartCount = refl
 numbered_refusal (LateStart p) = refl
-numbered_refusal NoSuch = refl
+numbered_refusal NoLead = refl
 numbered_refusal (NotFollowing p) = refl
 numbered_refusal (NoHops p) = refl
 
@@ -61,7 +61,7 @@ number_not_zero Disagree = refl
 number_not_zero ShortRoom = refl
 number_not_zero StartCount = refl
 number_not_zero (LateStart p) = refl
-number_not_zero NoSuch = refl
+number_not_zero NoLead = refl
 number_not_zero (NotFollowing p) = refl
 number_not_zero (NoHops p) = refl
 

@@ -2,7 +2,7 @@
 use Rattle.std.specs.Prelude.{ℕ}
 use Rattle.rules.specs.Outcome.{Outcome, is, refused, Verdict as Ruled}
 use Rattle.job.specs.declared.Refusal.{Refusal}
-use Rattle.job.specs.declared.Refusal.TheVariants.{TextTooLong, BadForm, Size, NoNode, SelfLink, NoLink, NotLeaving, Revisited, Disagree, ShortRoom, StartCount, LateStart, NoSuch, NotFollowing, NoHops}
+use Rattle.job.specs.declared.Refusal.TheVariants.{TextTooLong, BadForm, Size, NoNode, SelfLink, NoLink, NotLeaving, Revisited, Disagree, ShortRoom, StartCount, LateStart, NoLead, NotFollowing, NoHops}
 use Rattle.job.specs.declared.Verdict.{Verdict}
 use Rattle.job.specs.declared.Verdict.TheVariants.{Fine, Refused}
 
@@ -20,7 +20,7 @@ number_place Disagree = (9, 0)
 number_place ShortRoom = (10, 0)
 number_place StartCount = (11, 0)
 number_place (LateStart place) = (12, place)
-number_place NoSuch = (13, 0)
+number_place NoLead = (13, 0)
 number_place (NotFollowing line) = (14, line)
 number_place (NoHops place) = (15, place)
 

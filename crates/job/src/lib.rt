@@ -2,7 +2,7 @@
 ghost use Rattle.std.specs.Prelude.{◌≡◌, true, [], ◌∷◌, ℕ, ◌+◌, ◌≤◌, ◌<◌, length, get_or, take};
 ghost use Rattle.counting.specs.Count.{among};
 ghost use Rattle.rules.specs.Handed.{given, left};
-ghost use Rattle.rules.specs.Sizes.{nodes_most, links_most, packets_most, path_most, hops_most, text_most, plan_most, waits_most, start_most};
+ghost use Rattle.rules.specs.Sizes.{nodes_most, links_most, packets_most, path_most, hops_most, text_most, plan_most, start_most};
 ghost use Rattle.rules.specs.Network.{paths};
 ghost use Rattle.rules.specs.Tables.{link_verdict, walk as walk_verdict, packet_verdict, links_verdict, packets_verdict, stops_agree, tables as tables_verdict};
 ghost use Rattle.rules.specs.Answers.{starts_verdict, started_verdict};
@@ -34,8 +34,6 @@ impl Job {
     pub const TEXT: usize = 65535;
     // bytes that no plan's text exceeds
     pub const PLAN: usize = 19473;
-    // bytes that the lines of no packet's waits exceed
-    pub const WAITS: usize = 360448;
     // the latest start that may be handed in
     pub const START: u16 = 32767;
 
@@ -82,12 +80,6 @@ impl Job {
         Job::PLAN
     }
 
-    pub fn waits_most() -> usize
-        ensures { result ≡ waits_most }
-    {
-        Job::WAITS
-    }
-
     pub fn start_most() -> u16
         ensures { result ≡ start_most }
     {
@@ -130,7 +122,7 @@ pub enum Refusal {
     ShortRoom,
     StartCount,
     LateStart(u32),
-    NoSuch,
+    NoLead,
     NotFollowing(u32),
     NoHops(u32),
 }
@@ -153,7 +145,7 @@ impl Refusal {
             Refusal::ShortRoom => 10,
             Refusal::StartCount => 11,
             Refusal::LateStart(_) => 12,
-            Refusal::NoSuch => 13,
+            Refusal::NoLead => 13,
             Refusal::NotFollowing(_) => 14,
             Refusal::NoHops(_) => 15,
         }
@@ -177,7 +169,7 @@ impl Refusal {
             Refusal::Disagree => 0,
             Refusal::ShortRoom => 0,
             Refusal::StartCount => 0,
-            Refusal::NoSuch => 0,
+            Refusal::NoLead => 0,
         }
     }
 }

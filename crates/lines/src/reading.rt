@@ -96,7 +96,7 @@ fn ends_at(text: &[u8], at: usize) -> bool
 
 // The number of the field that begins at a place of a text, and where the field ends. The first digit is read by itself, so that the loop
 // has nothing to tell apart.
-pub fn number_at(text: &[u8], begin: usize) -> Field
+fn number_at(text: &[u8], begin: usize) -> Field
     ensures { result ≡ field_at (given text) begin }
 {
     if begin >= text.len() {

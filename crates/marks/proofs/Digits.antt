@@ -24,9 +24,9 @@ digit-suc : (word i : ℕ) → digit word (suc i) ≡ digit (word / 2) i
 unfolding digit
 digit-suc word i = ap (λ (x : ℕ). x % 2) (sym (div-div-eq-div-mul word 2 (2 ^ i) ∙ ap (λ (x : ℕ). word / x) (sym (pow-succ' 2 i))))
 
-pub digit-of-zero : (i : ℕ) → digit 0 i ≡ 0
+pub digit_of_zero : (i : ℕ) → digit 0 i ≡ 0
 unfolding digit
-digit-of-zero i = ap (λ (x : ℕ). x % 2) (zero-div (2 ^ i))
+digit_of_zero i = ap (λ (x : ℕ). x % 2) (zero-div (2 ^ i))
 
 pub digit_or : (a b i : ℕ) → digit (bit_or a b) i ≡ max (digit a i) (digit b i)
 unfolding digit
@@ -34,14 +34,14 @@ digit_or a b i =
     ap (λ (x : ℕ). x % 2) (or_shr a b i ∙ or_step (a / 2 ^ i) (b / 2 ^ i))
     ∙ digits_mod (bit_or (a / 2 ^ i / 2) (b / 2 ^ i / 2)) (omega (arith, digit_lt a i, digit_lt b i))
 
-pub digit-of_power : (b i : ℕ) → digit (2 ^ b) i ≡ bit (eqb i b)
-digit-of_power zero zero = digit-zero 1
-digit-of_power zero (suc i) = digit-suc 1 i ∙ digit-of-zero i ∙ ap bit (sym (eqb-suc-zero i))
-digit-of_power (suc b) zero = digit-zero (2 ^ suc b) ∙ even ∙ ap bit (sym (eqb-zero-suc b))
+pub digit_of_power : (b i : ℕ) → digit (2 ^ b) i ≡ bit (eqb i b)
+digit_of_power zero zero = digit-zero 1
+digit_of_power zero (suc i) = digit-suc 1 i ∙ digit_of_zero i ∙ ap bit (sym (eqb-suc-zero i))
+digit_of_power (suc b) zero = digit-zero (2 ^ suc b) ∙ even ∙ ap bit (sym (eqb-zero-suc b))
   where
     even : 2 ^ suc b % 2 ≡ 0
     even = omega (arith, pow-suc 2 b)
-digit-of_power (suc b) (suc i) = digit-suc (2 ^ suc b) i ∙ ap (λ (x : ℕ). digit x i) half ∙ digit-of_power b i ∙ ap bit (sym (eqb-suc-suc i b))
+digit_of_power (suc b) (suc i) = digit-suc (2 ^ suc b) i ∙ ap (λ (x : ℕ). digit x i) half ∙ digit_of_power b i ∙ ap bit (sym (eqb-suc-suc i b))
   where
     half : 2 ^ suc b / 2 ≡ 2 ^ b
     half = omega (arith, pow-suc 2 b)
@@ -57,8 +57,8 @@ digit_complement (suc k) word (suc i) h l =
     half = omega (arith, pow-suc 2 k, h)
 
 -- every digit is set in the greatest word
-pub digit-of_greatest : (k i : ℕ) → i < k → digit (2 ^ k - 1) i ≡ 1
-digit-of_greatest k i l = omega (arith, rw (sub_self (2 ^ k - 1)) at (digit_complement k (2 ^ k - 1) i (ones_lt k) l), digit-of-zero i)
+pub digit_of_greatest : (k i : ℕ) → i < k → digit (2 ^ k - 1) i ≡ 1
+digit_of_greatest k i l = omega (arith, rw (sub_self (2 ^ k - 1)) at (digit_complement k (2 ^ k - 1) i (ones_lt k) l), digit_of_zero i)
 
 -- ---- the zeros below the lowest digit that is set
 

@@ -14,13 +14,13 @@ use lib.Pow.{shl_exact}
 use lib.Seq.{set_out, set-get_or, take-suc-set, get_or-set_same, get_or-set_other}
 use borrow.Author.Tests.{lt-ltb, le-ltb, ltb-true, ltb-false, eqb-true, eqb-false, eq-eqb, ne_eqb}
 use Rattle.counting.specs.Count.{bit, pick, among}
-use Rattle.counting.proofs.Tests.{same-of-iff}
+use Rattle.counting.proofs.Tests.{same_of_iff}
 use Rattle.counting.proofs.Places.{from_place, zero_at}
 use Rattle.marks.specs.Marks.{digit, marked, unmarked, with_mark, with_start, with_starts, numbers_most, FirstUnmarked}
-use Rattle.marks.proofs.Digits.{digit_lt, digit-of-zero, digit_or, digit-of_power, digit-of_greatest, lowest_unset}
+use Rattle.marks.proofs.Digits.{digit_lt, digit_of_zero, digit_or, digit_of_power, digit_of_greatest, lowest_unset}
 
 pub same_test : (a b c d : ℕ) → (a ≡ b → c ≡ d) → (c ≡ d → a ≡ b) → eqb a b ≡ eqb c d
-same_test a b c d f g = same-of-iff _ _ (λ e. eq-eqb c d (f (eqb-true a b e))) (λ e. eq-eqb a b (g (eqb-true c d e)))
+same_test a b c d f g = same_of_iff _ _ (λ e. eq-eqb c d (f (eqb-true a b e))) (λ e. eq-eqb a b (g (eqb-true c d e)))
 
 -- of two that are stored at one place the second stays
 set-again : (xs : List ℕ) (i x y : ℕ) → set (set xs i x) i y ≡ set xs i y
@@ -32,7 +32,7 @@ set-again (z ∷ zs) (suc i) x y = ap (λ (rest : List ℕ). z ∷ rest) (set-ag
 
 unmarked_in_zero : (words : List ℕ) (n : ℕ) → get_or words (n / 64) 0 ≡ 0 → marked words n ≡ false
 unfolding marked
-unmarked_in_zero words n e = rw (e, digit-of-zero (n % 64))
+unmarked_in_zero words n e = rw (e, digit_of_zero (n % 64))
 
 pub none_marked : (n s : ℕ) → marked (unmarked n) s ≡ false
 unfolding unmarked
@@ -77,7 +77,7 @@ marked-with_mark words n s h = go (eqb (s / 64) (n / 64)) refl
     go true e =
         let q : s / 64 ≡ n / 64 = eqb-true _ _ e in
         let old = get_or words (n / 64) 0 in
-        rw (q, get_or-set_same words (n / 64) word 0 (omega arith), digit_or old (2 ^ (n % 64)) (s % 64), digit-of_power (n % 64) (s % 64), same_bit q)
+        rw (q, get_or-set_same words (n / 64) word 0 (omega arith), digit_or old (2 ^ (n % 64)) (s % 64), digit_of_power (n % 64) (s % 64), same_bit q)
         (digit_or_bit (digit old (s % 64)) (eqb n s) (digit_lt old (s % 64)))
     go false e =
         let q : s / 64 ≡ n / 64 → ⊥ = eqb-false _ _ e in
@@ -217,7 +217,7 @@ module _ (words : List ℕ) (at : ℕ) (all : AllMarked words (64 * at)) where
 
   -- it is not in a full word
   pub full_word : get_or words at 0 ≡ 2 ^ 64 - 1 → AllMarked words (64 * (at + 1))
-  full_word full t l = all_marked_to 64 (omega arith) (λ i m. rw full (digit-of_greatest 64 i m)) t (omega arith)
+  full_word full t l = all_marked_to 64 (omega arith) (λ i m. rw full (digit_of_greatest 64 i m)) t (omega arith)
 
   -- in one that is not full it is where the lowest digit is that is not set
   pub first_in_word : 64 * at < numbers_most → get_or words at 0 < 2 ^ 64 - 1

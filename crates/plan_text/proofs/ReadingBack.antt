@@ -33,8 +33,8 @@ module _ (j : Job) {told : Told} (tables_told : verdict_of told ≡ tables j) (e
   tables-lists =
       record { job = (tables-fine-iff j).0 (sym tables_told ∙ ap verdict_of e); links_same = refl; stops_same = refl; hops_same = refl }
 
-  pub tables-of_a_job : OfAJob (link_count j) j.stops j.hops
-  tables-of_a_job = (j, tables-lists)
+  pub tables_of_a_job : OfAJob (link_count j) j.stops j.hops
+  tables_of_a_job = (j, tables-lists)
 
 -- ---- the ways out
 

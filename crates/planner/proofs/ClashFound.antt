@@ -17,11 +17,10 @@ use Rattle.counting.proofs.Places.{at-get_or, at_mem}
 use Rattle.rules.specs.Network.{paths_from}
 use Rattle.rules.specs.Travel.{one_step}
 use Rattle.rules.specs.Claims.{link_claims, Placed, place}
-use Rattle.rules.specs.Holder.{holder}
-use Rattle.rules.specs.Check.{clash_after}
+use Rattle.rules.specs.Check.{holder, clash_with, clash_after}
 use Rattle.theorems.proofs.Accepted.{length-paths_from}
+use Rattle.theorems.proofs.Clashes.{found-holder}
 use Rattle.planner.specs.PacketsInLists.{SimplePaths, OnPath, path_claims, begin_from, path_at, packets, before}
-use Rattle.planner.specs.Told.{clash_with}
 use Rattle.planner.specs.Again.{steps_at, again, FirstAgain}
 use Rattle.planner.specs.EntriesAdded.{claim_steps, all_steps}
 use Rattle.planner.proofs.PathParts.{part}
@@ -101,9 +100,9 @@ module _ (stops hops starts : List ℕ) (simple : SimplePaths stops hops) (same 
       sym (ap length (hops_before_links stops hops starts simple same k (omega arith))) ∙ length-take-le (begin_from 0 stops k) hops (omega (arith, p.rises, p.within))
 
   -- a hop enters its link again exactly if a packet listed before its own takes the link in its step
-  again_taken : (k hop n : ℕ) → k < length stops → hop < length (path k) → n ≡ begin_from 0 stops k + hop
+  again-taken : (k hop n : ℕ) → k < length stops → hop < length (path k) → n ≡ begin_from 0 stops k + hop
       → again hops (all_steps ps) n ≡ taken_hop (before stops hops starts k) (start k) (path k) hop
-  again_taken k hop n l m e =
+  again-taken k hop n l m e =
       let front = take k ps in
       let steps = claim_steps (place (start k) (path_claims (path k))) in
       let at : get_or steps hop 0 ≡ start k + hop = omega (arith, step_at (start k) 0 (path k) hop m) in
@@ -119,14 +118,14 @@ module _ (stops hops starts : List ℕ) (simple : SimplePaths stops hops) (same 
   module _ (r : ℕ) (first : FirstAgain hops (all_steps ps) r) where
     -- the hops before it are not taken
     free_before : (k hop : ℕ) → k < length stops → hop < length (path k) → begin_from 0 stops k + hop < r → taken_hop (before stops hops starts k) (start k) (path k) hop ≡ false
-    free_before k hop l m e = sym (again_taken k hop _ l m refl) ∙ first.earlier _ e
+    free_before k hop l m e = sym (again-taken k hop _ l m refl) ∙ first.earlier _ e
 
     -- so a packet that stops before it is clear, and the clash is sought after it
     sought_from : (k : ℕ) → k ≤ length stops → begin_from 0 stops k ≤ r → clash_after [] ps ≡ clashes_from ps k
     sought_from zero l e = refl
     sought_from (suc k) l e =
         let p = part stops hops k simple l _ _ refl refl in
-        let clear : clash_at stops hops starts same k ≡ none = clash_nowhere (before stops hops starts k) (start k) (path k) k (λ hop m. free_before k hop l m (omega (arith, path_end stops hops simple k l))) in
+        let clear : clash_at stops hops starts same k ≡ none = clash_nowhere k (before stops hops starts k) (start k) (path k) (λ hop m. free_before k hop l m (omega (arith, path_end stops hops simple k l))) in
         sought_from k (omega arith) (omega (arith, p.rises)) ∙ first_turn stops hops starts same k l ∙ rw clear
 
     pub nothing-found : r ≡ length hops → none ≡ clash_after [] ps
@@ -144,9 +143,9 @@ module _ (stops hops starts : List ℕ) (simple : SimplePaths stops hops) (same 
         let m : hop < length (path k) = omega (arith, on.begun, on.ahead, path_end stops hops simple k l) in
         let is_link : get_or hops r 0 ≡ get_or (path k) hop 0 = ap (λ (xs : List ℕ). get_or xs r 0) (hops_around k l)
         ∙ (middle (all_links (take k ps)) (path k) (drop (get_or stops k 0) hops) hop r (omega (arith, begin_links k l)) m).at in
-        let is_taken = sym (again_taken k hop r l m there) ∙ first.here (omega (arith, on.ahead, p.within)) in
-        let clash = clash_first bs (start k) (path k) k hop m (λ h q. free_before k h l (omega (arith, m)) (omega arith)) is_taken in
+        let is_taken = sym (again-taken k hop r l m there) ∙ first.here (omega (arith, on.ahead, p.within)) in
+        let clash = clash_first k bs (start k) (path k) hop m (λ h q. free_before k h l (omega (arith, m)) (omega arith)) is_taken in
         let is_hop : step ≡ start k + hop = omega (arith, is_step, is_from) in
         ap₂ (λ (link step : ℕ). clash_with k link step (holder 0 bs link step)) is_link is_hop
         ∙ sym (sought_from k (omega arith) on.begun ∙ first_turn stops hops starts same k l
-        ∙ rw clash (held_first k (get_or (path k) hop 0) (start k + hop) (holder 0 bs (get_or (path k) hop 0) (start k + hop)) _ is_taken))
+        ∙ rw clash (held_first k (get_or (path k) hop 0) (start k + hop) (holder 0 bs (get_or (path k) hop 0) (start k + hop)) _ (found-holder 0 bs _ _ ∙ is_taken)))

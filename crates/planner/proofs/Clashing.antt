@@ -1,31 +1,28 @@
 -- What is left of the check after each turn: of the packets listed before one, of one packet's hops, and of all packets.
 use mathlib.Core.Path.{◌≡◌, refl, sym, ap, ◌∙◌}
-use mathlib.Core.Bool.{Bool, true, false, false≢true}
+use mathlib.Core.Bool.{Bool, true, false, true≢false, false≢true}
 use mathlib.Core.List.{List, [], ◌∷◌, ◌++◌, map}
 use mathlib.Core.Option.{Option, none, some}
 use Prim.Native.Nat.{ℕ, zero, suc, ◌+◌, ◌≤◌, ◌<◌}
 use native.Mathlib.Omega.{arith}
 use native.Mathlib.Numerals.{add-one}
 use lib.ListN.{length, get_or, take, drop, get_elem?, length-take, drop_of_length-le}
-use lib.Seq.{length-take-le}
+use lib.Seq.{drop-cons, drop-length, length-take-le}
 use Rattle.counting.specs.Count.{pick}
 use Rattle.counting.proofs.Places.{some_same, none_not_some, at_below, at-get_or, at_take}
 use Rattle.rules.specs.Network.{paths_from}
 use Rattle.rules.specs.Travel.{one_step}
 use Rattle.rules.specs.Outcome.{is}
-use Rattle.rules.specs.Claims.{Claim, Placed, place, placed}
-use Rattle.rules.specs.Holder.{holder, found, or_else, obstacle}
-use Rattle.rules.specs.Check.{Clash, clash_by, clash_of, clash_after}
-use Rattle.theorems.proofs.Conflicts.{links_mean}
-use Rattle.theorems.proofs.OneStep.{enters_iff}
-use Rattle.theorems.proofs.Holders.{not_found, NotHeld, first_obstacle, no_obstacle}
+use Rattle.rules.specs.Claims.{Claim, link_claims, Placed, place, placed, taken}
+use Rattle.rules.specs.Check.{Clash, or_else, holder, clash_with, clash_of, clash_after}
+use Rattle.theorems.proofs.Clashes.{found, found-holder}
 use Rattle.theorems.proofs.Placements.{take-placed_by, placed_by_at}
 use Rattle.theorems.proofs.Accepted.{length-paths_from}
 use Rattle.job.specs.declared.Step.{Step}
 use Rattle.planner.specs.declared.Held.{Held}
 use Rattle.planner.specs.declared.Held.TheVariants.{By, Nobody}
 use Rattle.planner.specs.declared.Checked.TheVariants.{Clear, Clash as Shown}
-use Rattle.planner.specs.Told.{held_by, checked_of, clash_with, clear_or}
+use Rattle.planner.specs.Told.{held_by, checked_of, clear_or}
 use Rattle.planner.specs.PacketsInLists.{path_claims, path_at, packet_enters, packets, before}
 
 -- a list cut before what stands at i, and after it
@@ -80,7 +77,15 @@ module _ (stops hops starts : List ℕ) (k : ℕ) (few : k ≤ length stops) (en
       let short : length (before stops hops starts k) ≤ j = omega (arith, ap length (before-take stops hops starts k), length-take k (packets stops hops starts)) in
       rw (drop_of_length-le (before stops hops starts k) short)
 
--- a clash with a holder comes before all others
+-- a link that is not taken has no holder
+free_held : (bs : List Placed) (link step : ℕ) → taken bs link step ≡ false → holder 0 bs link step ≡ none
+free_held bs link step t = not_found _ (found-holder 0 bs link step ∙ t)
+  where
+    not_found : (o : Option ℕ) → found o ≡ false → o ≡ none
+    not_found none e = refl
+    not_found (some a) e = absurd (true≢false e)
+
+-- and a clash with a holder comes before all others
 pub held_first : (k link step : ℕ) (o : Option ℕ) (p : Option Clash) → found o ≡ true → or_else (clash_with k link step o) p ≡ clash_with k link step o
 held_first k link step none p e = absurd (false≢true e)
 held_first k link step (some a) p e = refl
@@ -98,56 +103,35 @@ pub checked-clear_or : (o : Option Clash) → checked_of (clear_or o) ≡ is o
 checked-clear_or none = refl
 checked-clear_or (some x) = refl
 
--- ---- what stands in the way on a path, by its hops
+-- ---- the clash of packet k, sought from a hop on
+
+abbrev clash_from : ℕ → List Placed → ℕ → List ℕ → ℕ → Option Clash
+clash_from k bs s path hop = clash_of k bs s (link_claims one_step hop (drop hop path))
 
 -- whether a hop's link is taken in its step
 abbrev pub taken_hop : List Placed → ℕ → List ℕ → ℕ → Bool
-taken_hop bs s path hop = found (holder 0 bs (get_or path hop 0) (s + hop))
+taken_hop bs s path hop = taken bs (get_or path hop 0) (s + hop)
 
-module _ (bs : List Placed) (s : ℕ) (path : List ℕ) where
-  -- nobody has the claim of a hop that is not taken
-  not_held : (hop : ℕ) → (hop < length path → taken_hop bs s path hop ≡ false) → NotHeld bs (path_claims path) s hop
-  not_held hop free c e =
-      let (there, is_step) = (enters_iff s path hop _ _).0 ((links_mean one_step).claim_takes s path hop e refl refl) in
-      let l = at_below path hop there in
-      let is_link : c.resource ≡ get_or path hop 0 = some_same (sym there ∙ at-get_or path hop 0 l) in
-      rw (is_link, ← is_step) (not_found _ (free l))
+module _ (k : ℕ) (bs : List Placed) (s : ℕ) (path : List ℕ) where
+  clash_turn : (hop : ℕ) → hop < length path → clash_from k bs s path hop ≡ or_else (clash_with k (get_or path hop 0) (s + hop) (holder 0 bs (get_or path hop 0) (s + hop))) (clash_from k bs s path (suc hop))
+  unfolding clash_of link_claims
+  clash_turn hop l = rw (drop-cons path hop 0 l, add-one hop)
 
-  pub obstacle_nowhere : ((h : ℕ) → h < length path → taken_hop bs s path h ≡ false) → obstacle bs (path_claims path) s ≡ none
-  obstacle_nowhere free = no_obstacle bs s (path_claims path) (λ h. not_held h (free h))
+  -- hops that are not taken leave it to the next
+  clash_until : (hop : ℕ) → hop ≤ length path → ((h : ℕ) → h < hop → taken_hop bs s path h ≡ false) → clash_from k bs s path 0 ≡ clash_from k bs s path hop
+  clash_until zero l free = refl
+  clash_until (suc hop) l free = clash_until hop (omega arith) (λ h m. free h (omega arith)) ∙ clash_turn hop l ∙ rw (free_held _ _ _ (free hop (omega arith)))
 
-  -- the first that is taken is it
-  pub obstacle_at : (hop : ℕ) → hop < length path → ((h : ℕ) → h < hop → taken_hop bs s path h ≡ false)
-      → {e : ℕ} → holder 0 bs (get_or path hop 0) (s + hop) ≡ some e
-      → obstacle bs (path_claims path) s ≡ some (record { at = hop; resource = get_or path hop 0; step = s + hop; holder = e })
-  obstacle_at hop l free held =
-      let (claim, is_claim, is_resource, is_step) = (links_mean one_step).takes_claim s path hop ((enters_iff s path hop _ _).1 (at-get_or path hop 0 l, refl)) in
-      first_obstacle bs s (path_claims path) (record {
-        claim = claim;
-        nth = hop;
-        is_nth = omega arith;
-        is_claim = is_claim;
-        is_resource = is_resource;
-        is_step = is_step;
-        held = held;
-        first = λ h m. not_held h (λ n. free h m);
-      })
+  pub clash_nowhere : ((h : ℕ) → h < length path → taken_hop bs s path h ≡ false) → clash_of k bs s (path_claims path) ≡ none
+  unfolding clash_of link_claims
+  clash_nowhere free = clash_until (length path) (omega arith) free ∙ rw (drop-length path)
 
-  -- so is the clash of packet k
-  module _ (k : ℕ) where
-    pub clash_nowhere : ((h : ℕ) → h < length path → taken_hop bs s path h ≡ false) → clash_of k bs s (path_claims path) ≡ none
-    unfolding clash_of
-    clash_nowhere free = ap (clash_by k) (obstacle_nowhere free)
-
-    pub clash_first : (hop : ℕ) → hop < length path → ((h : ℕ) → h < hop → taken_hop bs s path h ≡ false) → taken_hop bs s path hop ≡ true
-        → clash_of k bs s (path_claims path) ≡ clash_with k (get_or path hop 0) (s + hop) (holder 0 bs (get_or path hop 0) (s + hop))
-    unfolding clash_of
-    clash_first hop l free t = go (holder 0 bs (get_or path hop 0) (s + hop)) refl t
-      where
-        go : (o : Option ℕ) → holder 0 bs (get_or path hop 0) (s + hop) ≡ o → found o ≡ true
-            → clash_by k (obstacle bs (path_claims path) s) ≡ clash_with k (get_or path hop 0) (s + hop) o
-        go none p q = absurd (false≢true q)
-        go (some e) p q = ap (clash_by k) (obstacle_at hop l free p)
+  -- the first that is taken has it
+  pub clash_first : (hop : ℕ) → hop < length path → ((h : ℕ) → h < hop → taken_hop bs s path h ≡ false) → taken_hop bs s path hop ≡ true
+      → clash_of k bs s (path_claims path) ≡ clash_with k (get_or path hop 0) (s + hop) (holder 0 bs (get_or path hop 0) (s + hop))
+  clash_first hop l free t =
+      clash_until hop (omega arith) free ∙ clash_turn hop l
+      ∙ held_first k (get_or path hop 0) (s + hop) (holder 0 bs (get_or path hop 0) (s + hop)) _ (found-holder 0 bs _ _ ∙ t)
 
 -- ---- the first clash, sought from packet k on
 

@@ -9,7 +9,7 @@ use native.Mathlib.Omega.{arith}
 use lib.Dec.{eqb, ltb}
 use lib.ListN.{length, get_or, get_elem?}
 use borrow.Author.Tests.{eqb-true, eq-eqb, le-ltb}
-use Rattle.counting.proofs.Tests.{false_of_not_true, same-of-iff}
+use Rattle.counting.proofs.Tests.{false_of_not_true, same_of_iff}
 use Rattle.counting.proofs.Places.{some_same, at_below, at-get_or}
 use Rattle.rules.specs.Travel.{one_step}
 use Rattle.rules.specs.Claims.{place, takes}
@@ -33,7 +33,7 @@ module _ (start : ℕ) (path : List ℕ) (link step : ℕ) where
   past_path l m = le-ltb _ _ m ∙ sym (false_of_not_true _ (λ e. let h = takes_at_hop.0 e in omega (arith, h.2, at_below path h.0 h.1)))
 
   pub on_path : start ≤ step → step - start < length path → eqb (get_or path (step - start) 0) link ≡ takes (place start (path_claims path)) link step
-  on_path l m = same-of-iff _ _ (λ e. takes_at_hop.1 (here e)) (λ e. there (takes_at_hop.0 e))
+  on_path l m = same_of_iff _ _ (λ e. takes_at_hop.1 (here e)) (λ e. there (takes_at_hop.0 e))
     where
       here : eqb (get_or path (step - start) 0) link ≡ true → (hop : ℕ) × (get_elem? path hop ≡ some link) × (start + hop ≡ step)
       here e = (step - start, at-get_or path (step - start) 0 m ∙ ap {B = Option ℕ} some (eqb-true _ _ e), omega arith)

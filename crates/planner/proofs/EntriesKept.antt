@@ -14,9 +14,7 @@ use Rattle.counting.proofs.Sums.{sum_append}
 use Rattle.counting.proofs.Places.{at-get_or, at_mem}
 use Rattle.rules.specs.Sizes.{links_most, hops_most}
 use Rattle.rules.specs.Network.{paths_from}
-use Rattle.rules.specs.Claims.{place, placed, takes}
-use Rattle.rules.specs.Holder.{holder, found}
-use Rattle.theorems.proofs.Holders.{found-holder}
+use Rattle.rules.specs.Claims.{place, placed, takes, taken}
 use Rattle.theorems.proofs.Placements.{placed_by-snoc}
 use Rattle.theorems.proofs.Accepted.{length-paths_from}
 use Rattle.theorems.proofs.HopsOnPaths.{mem-paths}
@@ -140,10 +138,11 @@ module _ (stops hops starts : List ℕ) (k s : ℕ) (l : k < length stops) (room
       (placed_by-snoc path_claims (take k starts) (take k ps) s (get_or ps k [])
       (length-take-le k starts (omega arith) ∙ sym (length-take-le k ps (omega (arith, n)))))
 
-  held_next : (link step : ℕ) → found (holder 0 (before stops hops (set starts k s) (k + 1)) link step)
-      ≡ (found (holder 0 (before stops hops starts k) link step) || takes (place s (path_claims (path_at stops hops k))) link step)
-  held_next link step =
-      rw (before_next, found-holder 0 (before stops hops starts k), found-holder)
+  taken_next : (link step : ℕ) → taken (before stops hops (set starts k s) (k + 1)) link step
+      ≡ (taken (before stops hops starts k) link step || takes (place s (path_claims (path_at stops hops k))) link step)
+  unfolding taken
+  taken_next link step =
+      rw before_next
       (any_append (λ b. takes b link step) (before stops hops starts k) (place s (path_claims (path_at stops hops k)) ∷ [])
       ∙ ap (λ (b : Bool). any_of (λ b. takes b link step) (before stops hops starts k) || b) (or-false _))
 
@@ -162,7 +161,7 @@ module _ (stops hops starts : List ℕ) (k s : ℕ) (l : k < length stops) (room
       entries = record {
         same = λ link step.
             entered_added path nexts steps nexts' steps' firsts s added (rw c.steps_length c.rooms) (room_for-path stops hops starts k simple l firsts nexts steps c path is_path) link step
-            ∙ rw (c.entries.same link step, is_path) (sym (held_next link step));
+            ∙ rw (c.entries.same link step, is_path) (sym (taken_next link step));
       };
     }
 
@@ -178,7 +177,7 @@ hops_below stops hops simple i m =
 pub entries_none : (stops hops starts firsts nexts steps : List ℕ) → length hops ≤ hops_most → Rooms (λ link. occurs link hops) firsts (length hops)
     → ((link : ℕ) → get_or nexts link 0 ≡ get_or firsts link 0) → length firsts ≡ links_most → length nexts ≡ links_most → length steps ≡ hops_most
     → EntriesBefore stops hops starts 0 firsts nexts steps
-unfolding entered steps_on holder before placed
+unfolding entered steps_on taken before placed
 entries_none stops hops starts firsts nexts steps few opened empty f n s = record {
   firsts_length = f;
   nexts_length = n;

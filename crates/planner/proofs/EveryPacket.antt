@@ -26,7 +26,7 @@ use Rattle.planner.specs.Cuts.{Cuttable}
 use Rattle.planner.specs.EntriesAdded.{claim_steps, all_steps, EntriesAdded}
 use Rattle.planner.proofs.PathParts.{part}
 use Rattle.planner.proofs.Searching.{hops_before}
-use Rattle.planner.proofs.StepsInOrder.{all_links, all_links-append, all_as_many, links_of-path, path_as_many}
+use Rattle.planner.proofs.StepsInOrder.{all_links, all_links-append, all_as_many, links_of_path, path_as_many}
 use Rattle.planner.proofs.EnteringLinks.{EnteredSoFar, entered-start, entered_turn, entered_done, nexts_done}
 use Rattle.planner.proofs.EntriesKept.{hops_from_begin, hops_below}
 use Rattle.planner.proofs.Clashing.{drop-cons_at, take-suc_at, placed-le, packet_at}
@@ -57,7 +57,7 @@ module _ (stops hops starts : List ℕ) (simple : SimplePaths stops hops) (same 
       let there : e ≡ b + (e - b) = omega (arith, p.rises) in
       ap (λ (n : ℕ). take n hops) there ∙ take-add b (e - b) hops
       ∙ rw (← p.links, take-suc_at (packets stops hops starts) k (packet_at stops hops starts k l (omega arith)), all_links-append, hops_before_links k (omega arith))
-      (ap (λ (links : List ℕ). all_links (take k (packets stops hops starts)) ++ links) (sym (append-nil _ ∙ links_of-path one_step 0 path)))
+      (ap (λ (links : List ℕ). all_links (take k (packets stops hops starts)) ++ links) (sym (append-nil _ ∙ links_of_path one_step 0 path)))
 
   hops_links : hops ≡ all_links (packets stops hops starts)
   hops_links =

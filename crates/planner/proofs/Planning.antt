@@ -28,9 +28,9 @@ pub job_listed : (j : Job) → IsJob j → SimplePaths j.stops j.hops
 unfolding paths
 job_listed j h = record { agree = job_stops_agree j h; few = h.few_hops; links = link_count j; links_few = h.few_links; simple = packets_simple j h }
 
-pub greedy-of-lists : (j : Job) → IsJob j → greedy_starts j.stops j.hops ≡ greedy j
+pub greedy_of_lists : (j : Job) → IsJob j → greedy_starts j.stops j.hops ≡ greedy j
 unfolding greedy_starts greedy paths delay_of
-greedy-of-lists j h = sym (ap (greedy_after []) (job_claims j h))
+greedy_of_lists j h = sym (ap (greedy_after []) (job_claims j h))
 
 module _ (j : Job) (told : Verdict) (same : verdict_of told ≡ tables j) where
   -- what a verdict that is fine says of the job
@@ -61,4 +61,4 @@ module _ (j : Job) (told : Verdict) (same : verdict_of told ≡ tables j) where
   unfolding lent_after
   plan_filled e lent after l w =
       let a = planned_starts e (length lent) l in
-      record { verdict = rw a; list = rw (a, ← greedy-of-lists j (fine_job e), length-greedy_starts j.stops j.hops) w }
+      record { verdict = rw a; list = rw (a, ← greedy_of_lists j (fine_job e), length-greedy_starts j.stops j.hops) w }

@@ -6,7 +6,7 @@ use native.Mathlib.Omega.{arith, by_contra}
 use Rattle.counting.proofs.Tests.{never_both, any_same}
 use Rattle.rules.specs.Claims.{Claim, Placed, blocked}
 use Rattle.rules.specs.Greedy.{first_free, FirstFree}
-use Rattle.theorems.proofs.Holders.{blocked_held}
+use Rattle.theorems.proofs.Conflicts.{blocked-taken}
 use Rattle.theorems.proofs.FirstFrees.{first_free_is, first_free_unique}
 use Rattle.marks.specs.Marks.{marked, unmarked, numbers_most, FirstUnmarked}
 use Rattle.planner.specs.PacketsInLists.{path_claims}
@@ -19,7 +19,7 @@ module _ (path firsts nexts steps : List ℕ) (bs : List Placed) (entries : Entr
 
   ruled_out-iff-blocked : (s : ℕ) → ruled_out firsts nexts steps cs s ≡ blocked bs cs s
   unfolding ruled_out
-  ruled_out-iff-blocked s = any_same _ _ cs (λ c. entries.same c.resource (s + c.offset)) ∙ sym (blocked_held bs cs s)
+  ruled_out-iff-blocked s = any_same _ _ cs (λ c. entries.same c.resource (s + c.offset)) ∙ sym (blocked-taken bs cs s)
 
   -- the words were cleared, and then the starts marked that are ruled out
   module _ (n : ℕ) (cleared words : List ℕ) (is_cleared : cleared ≡ unmarked n)

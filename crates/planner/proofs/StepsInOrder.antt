@@ -7,12 +7,10 @@ use native.Mathlib.Nat.{suc_inj}
 use native.Mathlib.Omega.{arith}
 use lib.Dec.{eqb}
 use lib.ListN.{length, length-append, length-map}
-use Rattle.counting.specs.Count.{any_of, pick, bit, among, occurs}
+use Rattle.counting.specs.Count.{pick, bit, among, occurs}
 use Rattle.counting.proofs.Tests.{any_append}
 use Rattle.rules.specs.Travel.{one_step}
-use Rattle.rules.specs.Claims.{Claim, link_claims, Placed, place, takes}
-use Rattle.rules.specs.Holder.{holder, found}
-use Rattle.theorems.proofs.Holders.{found-holder}
+use Rattle.rules.specs.Claims.{Claim, link_claims, Placed, place, takes, taken}
 use Rattle.planner.specs.PacketsInLists.{path_claims}
 use Rattle.planner.specs.Again.{steps_at}
 use Rattle.planner.specs.EntriesAdded.{claim_steps, all_steps}
@@ -83,25 +81,22 @@ among_steps_of s (c ∷ cs) link step =
     ∙ ap (λ (b : Bool). (eqb c.resource link && eqb (s + c.offset) step) || b) (among_steps_of s cs link step)
 
 -- and exactly if one of them takes it
-among_taken : (bs : List Placed) (link step : ℕ) → among step (steps_at link (all_links bs) (all_steps bs)) ≡ any_of (λ b. takes b link step) bs
-unfolding all_links all_steps steps_at
-among_taken [] link step = refl
-among_taken (b ∷ bs) link step =
-    rw (steps_at-append link (claim_links b) (all_links bs) (claim_steps b) (all_steps bs) (as_many b), any_append, among_steps_of b.start b.claimed link step, among_taken bs link step)
-
-pub among-all_steps : (bs : List Placed) (link step : ℕ) → among step (steps_at link (all_links bs) (all_steps bs)) ≡ found (holder 0 bs link step)
-among-all_steps bs link step = among_taken bs link step ∙ sym (found-holder 0 bs link step)
+pub among-all_steps : (bs : List Placed) (link step : ℕ) → among step (steps_at link (all_links bs) (all_steps bs)) ≡ taken bs link step
+unfolding all_links all_steps steps_at taken
+among-all_steps [] link step = refl
+among-all_steps (b ∷ bs) link step =
+    rw (steps_at-append link (claim_links b) (all_links bs) (claim_steps b) (all_steps bs) (as_many b), any_append, among_steps_of b.start b.claimed link step, among-all_steps bs link step)
 
 -- ---- along a path
 
-pub links_of-path : (delay : ℕ → ℕ) (o : ℕ) (path : List ℕ) → map (λ c. c.resource) (link_claims delay o path) ≡ path
+pub links_of_path : (delay : ℕ → ℕ) (o : ℕ) (path : List ℕ) → map (λ c. c.resource) (link_claims delay o path) ≡ path
 unfolding link_claims
-links_of-path delay o [] = refl
-links_of-path delay o (l ∷ ls) = ap (λ (r : List ℕ). l ∷ r) (links_of-path delay (o + delay l) ls)
+links_of_path delay o [] = refl
+links_of_path delay o (l ∷ ls) = ap (λ (r : List ℕ). l ∷ r) (links_of_path delay (o + delay l) ls)
 
 module _ (start : ℕ) (path : List ℕ) where
   pub path_as_many : length path ≡ length (claim_steps (place start (path_claims path)))
-  path_as_many = rw (links_of-path one_step 0 path) at (as_many (place start (path_claims path)))
+  path_as_many = rw (links_of_path one_step 0 path) at (as_many (place start (path_claims path)))
 
   pub among-path_steps : (link step : ℕ) → among step (steps_at link path (claim_steps (place start (path_claims path)))) ≡ takes (place start (path_claims path)) link step
-  among-path_steps link step = rw (links_of-path one_step 0 path) at (among_steps_of start (path_claims path) link step)
+  among-path_steps link step = rw (links_of_path one_step 0 path) at (among_steps_of start (path_claims path) link step)

@@ -23,7 +23,7 @@ use Rattle.job_text.proofs.Accepts.{read_first, read_accepted}
 use Rattle.planner.specs.PacketsInLists.{SimplePaths, greedy_starts}
 use Rattle.planner.specs.Told.{ReadAndPlannedAs}
 use Rattle.planner.proofs.Filling.{length-greedy_starts}
-use Rattle.planner.proofs.Planning.{job_listed, greedy-of-lists}
+use Rattle.planner.proofs.Planning.{job_listed, greedy_of_lists}
 
 module _ (text : List ℕ) {lent after : Lists} {told : Reading} (a : ReadAs (read_in text lent) told lent after) where
   pub text_refused : {r : Refusal} → told ≡ Refused r → (starts : List ℕ) → ReadAndPlannedAs (read_in text lent) told lent after starts starts
@@ -45,7 +45,7 @@ module _ (text : List ℕ) {lent after : Lists} {told : Reading} (a : ReadAs (re
     unfolding lent_after
     filled_starts starts =
         let j = so_far counts after in
-        rw (read_first text read, ← greedy-of-lists j job_read_lem, length-greedy_starts j.stops j.hops)
+        rw (read_first text read, ← greedy_of_lists j job_read_lem, length-greedy_starts j.stops j.hops)
 
     module _ {packets hops : ℕ} (p : packets ≡ counts.packets) (h : hops ≡ counts.hops) where
       same-packets : packets - 0 ≡ counts.packets

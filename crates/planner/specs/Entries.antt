@@ -3,8 +3,7 @@
 use Rattle.std.specs.Prelude.{◌≡◌, Bool, ◌||◌, List, ◌⊎◌, ℕ, ◌+◌, ◌-◌, ◌*◌, ◌≤◌, ◌<◌, length, get_or, take, drop}
 use Rattle.counting.specs.Count.{any_of, among, sum_of, occurs}
 use Rattle.rules.specs.Sizes.{links_most, hops_most}
-use Rattle.rules.specs.Claims.{Claim, Placed}
-use Rattle.rules.specs.Holder.{holder, found}
+use Rattle.rules.specs.Claims.{Claim, Placed, taken}
 use Rattle.rules.specs.Greedy.{first_free}
 use Rattle.marks.specs.Marks.{marked}
 use Rattle.planner.specs.PacketsInLists.{path_claims, begin_from, before}
@@ -21,7 +20,7 @@ entered firsts nexts steps link step = among step (steps_on firsts nexts steps l
 
 -- the entries are those of the placed packets, whoever they are
 pub record EntriesOf (bs : List Placed) (firsts nexts steps : List ℕ) : Type 0 where
-  pub same : (link step : ℕ) → entered firsts nexts steps link step ≡ found (holder 0 bs link step)
+  pub same : (link step : ℕ) → entered firsts nexts steps link step ≡ taken bs link step
 
 -- whether a packet with these claims, started at s, would enter a link in a step in which it is entered
 unfoldable pub ruled_out : (firsts nexts steps : List ℕ) → List Claim → ℕ → Bool

@@ -4,8 +4,7 @@ use Rattle.std.proofs.Math.Option.{Option, none, some}
 use Rattle.rules.specs.Network.{Job}
 use Rattle.rules.specs.Outcome.{Outcome, is, fine, onward}
 use Rattle.rules.specs.Greedy.{greedy}
-use Rattle.rules.specs.Holder.{obstacle_by}
-use Rattle.rules.specs.Check.{Clash as RuledClash, clash_by}
+use Rattle.rules.specs.Check.{Clash as RuledClash}
 use Rattle.rules.specs.Answers.{lent_after}
 use Rattle.job.specs.declared.Verdict.{Verdict}
 use Rattle.job.specs.Told.{refusal_of, verdict_of}
@@ -33,10 +32,6 @@ abbrev pub checked_of : Checked → Outcome (Option RuledClash)
 checked_of Clear = is none
 checked_of (Clash later earlier link step) = is (some (record { later = later; earlier = earlier; resource = link; step = step.0 }))
 checked_of (ClashRefused refusal) = refusal_of refusal
-
--- packet k's clash on the link in the step with whoever has it, if somebody does. A clash does not tell the hop: any place stands for it
-abbrev pub clash_with : (k link step : ℕ) → Option ℕ → Option RuledClash
-clash_with k link step held = clash_by k (obstacle_by 0 link step held)
 
 -- clear, or the clash
 abbrev pub clear_or : Option RuledClash → Checked

@@ -7,12 +7,11 @@ ghost use Rattle.rules.specs.Network.{paths_from};
 ghost use Rattle.rules.specs.Outcome.{is};
 ghost use Rattle.rules.specs.Travel.{one_step};
 ghost use Rattle.rules.specs.Claims.{place, takes};
-ghost use Rattle.rules.specs.Holder.{holder as holder_of};
-ghost use Rattle.rules.specs.Check.{clash_after};
+ghost use Rattle.rules.specs.Check.{holder as holder_of, clash_with, clash_after};
 ghost use Rattle.rules.specs.Lead.{entry_at, lead_of};
 ghost use Rattle.rules.specs.Answers.{planned, checked, led};
 ghost use Rattle.job.specs.Lists.{job_in};
-ghost use Rattle.planner.specs.Told.{entered_of, held_by, checked_of, clash_with, clear_or, led_of, PlannedAs, Near};
+ghost use Rattle.planner.specs.Told.{entered_of, held_by, checked_of, clear_or, led_of, PlannedAs, Near};
 ghost use Rattle.planner.specs.PacketsInLists.{SimplePaths, InTime, OnPath, path_claims, begin_from, path_at, packet_enters, packets, before, greedy_starts};
 ghost use Rattle.planner.specs.Entries.{widest, OnLinks, Enterable, EntriesBefore};
 ghost use Rattle.planner.specs.Again.{FirstAgain};
@@ -164,10 +163,10 @@ fn difference(first: Entered, second: Entered) -> Led
     ensures { led_of result ≡ lead_of (entered_of first) (entered_of second) }
 {
     let Entered::At(one) = first else {
-        return Led::Refused(Refusal::NoSuch);
+        return Led::Refused(Refusal::NoLead);
     };
     let Entered::At(other) = second else {
-        return Led::Refused(Refusal::NoSuch);
+        return Led::Refused(Refusal::NoLead);
     };
     Led::By(one.0 as i32 - other.0 as i32)
 }
@@ -382,7 +381,7 @@ pub fn lead(
         return Led::Refused(refusal);
     }
     if a == b {
-        return Led::Refused(Refusal::NoSuch);
+        return Led::Refused(Refusal::NoLead);
     }
     let first = entry(stops, hops, starts, a, link);
     let second = entry(stops, hops, starts, b, link);

@@ -2,4 +2,3 @@ pub mod Sessions
 pub mod NoHops
 pub mod Parallel
 pub mod Readings
-pub mod Whys

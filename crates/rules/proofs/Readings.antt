@@ -9,8 +9,7 @@ use Rattle.rules.specs.Outcome.{Outcome, is, refused, onward}
 use Rattle.rules.specs.Tables.{link_verdict, walk, packet_verdict, links_verdict, packets_verdict, stops_agree, tables}
 use Rattle.rules.specs.Claims.{link_claims, claims_of, claims, placed, takes}
 use Rattle.rules.specs.Counts.{end_of, routing_time, load, congestion, dilation}
-use Rattle.rules.specs.Holder.{holder, obstacle_from}
-use Rattle.rules.specs.Check.{clash_of, clash_after}
+use Rattle.rules.specs.Check.{holder, clash_of, clash_after}
 use Rattle.rules.specs.Bytes.{line_feed, letter_r, letter_s, letter_t}
 use Rattle.rules.specs.Bytes.{digits, decimal, fields_text, line_text, value_after, number_of, numbers_of, split}
 use Rattle.rules.specs.JobText.{line_of, with_line, with_lines, reading}
@@ -111,7 +110,7 @@ table =
 pub readings : AllHold Holds table
 unfolding table
     link_at paths_from paths packets_of packets delay_of travel link_verdict walk packet_verdict links_verdict packets_verdict stops_agree tables
-    link_claims claims_of claims placed takes end_of routing_time load congestion dilation holder obstacle_from clash_of clash_after
+    link_claims claims_of claims placed takes end_of routing_time load congestion dilation holder clash_of clash_after
     digits decimal fields_text line_text value_after number_of numbers_of split line_of with_line with_lines reading
     three_of rows_from last_line rows_verdict totals_verdict followed with_rows read_back starts_verdict started_verdict checked checked_texts checks
 readings = (refl, (refl, (refl, (refl, (refl, (refl, (refl, (refl, (refl, (refl, (refl, (refl, (refl, (refl, (refl, (refl, (refl, (refl, (refl, (refl, (refl, (refl, (refl, (refl, (refl, (refl, (refl, (refl, (refl, (refl, (refl, (refl, (refl, (refl, (refl, (refl, (refl, (refl, (refl, (refl, (refl, (refl, (refl, (refl, (refl, (refl, (refl, (refl, (refl, (refl, (refl, tt)))))))))))))))))))))))))))))))))))))))))))))))))))

@@ -12,8 +12,7 @@ use Rattle.rules.specs.Tables.{link_verdict, walk, packet_verdict, links_verdict
 use Rattle.rules.specs.Claims.{link_claims, claims_of, claims, placed, takes, conflict, blocked}
 use Rattle.rules.specs.Greedy.{scan, crossings, first_free, greedy_after, greedy}
 use Rattle.rules.specs.Counts.{end_of, routing_time, load, congestion, dilation, shared, meetings_with, meetings_after, meetings}
-use Rattle.rules.specs.Holder.{holder, obstacle_from}
-use Rattle.rules.specs.Check.{Clash, clash_of, clash_after}
+use Rattle.rules.specs.Check.{Clash, holder, clash_of, clash_after}
 use Rattle.rules.specs.Lead.{entry_step, entry_at, lead}
 use Rattle.rules.specs.Bytes.{letter_n, letter_l, letter_p, letter_s, letter_t, digits, decimal, fields_text, line_text, value_after, number_of, numbers_of, split}
 use Rattle.rules.specs.JobText.{line_of, with_line, with_lines, reading}
@@ -78,10 +77,10 @@ S packet start end = line_text letter_s (packet ∷ start ∷ end ∷ [])
 abbrev pub T : ℕ → ℕ → ℕ → List ℕ
 T time c d = line_text letter_t (time ∷ c ∷ d ∷ [])
 
-abbrev pub links_a : List ℕ
+abbrev links_a : List ℕ
 links_a = N 4 ++ L 0 1 ++ L 1 2 ++ L 2 3
 
-abbrev pub five_links : List ℕ
+abbrev five_links : List ℕ
 five_links = N 5 ++ L 0 1 ++ L 1 2 ++ L 2 3 ++ L 1 4 ++ L 4 2
 
 abbrev pub two_way : List ℕ
@@ -109,7 +108,7 @@ table =
 pub sessions : AllHold Holds table
 unfolding table
     link_at paths_from paths packets_of packets delay_of travel link_verdict walk packet_verdict links_verdict packets_verdict stops_agree tables
-    link_claims claims_of claims placed takes conflict blocked scan crossings first_free greedy_after greedy end_of routing_time load congestion dilation shared meetings_with meetings_after meetings holder obstacle_from clash_of clash_after entry_step entry_at lead
+    link_claims claims_of claims placed takes conflict blocked scan crossings first_free greedy_after greedy end_of routing_time load congestion dilation shared meetings_with meetings_after meetings holder clash_of clash_after entry_step entry_at lead
     digits decimal fields_text line_text value_after number_of numbers_of split line_of with_line with_lines reading packet_lines text_of_plan
     starts_verdict started_verdict checked led answer printed plans
 sessions = (refl, (refl, (refl, (refl, (refl, (refl, (refl, (refl, (refl, (refl, (refl, (refl, (refl, (refl, (refl, tt)))))))))))))))

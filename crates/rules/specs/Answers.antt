@@ -1,7 +1,7 @@
--- Document 01, "Refusals and their order", what follows on tables, with the reader of plans of document 02, request 1, and the waits of
--- its request 4; and the answers from bytes.
-use Rattle.std.specs.Prelude.{List, [], ◌∷◌, ◌++◌, ℕ, suc, eqb, ltb, leb, length, drop, ℤ}
-use Rattle.std.proofs.Math.Option.{Option, none, some}
+-- Document 01, "Refusals and their order", what follows on tables, with the reader of plans of document 02, request 1; and the one
+-- answer from bytes.
+use Rattle.std.specs.Prelude.{List, [], ◌∷◌, ◌++◌, ℕ, suc, eqb, leb, length, drop, ℤ}
+use Rattle.std.proofs.Math.Option.{Option}
 use Rattle.rules.specs.Sizes.{start_most}
 use Rattle.rules.specs.Network.{Job, paths}
 use Rattle.rules.specs.Travel.{delay_in}
@@ -11,8 +11,7 @@ use Rattle.rules.specs.Claims.{claims, placed}
 use Rattle.rules.specs.Greedy.{greedy}
 use Rattle.rules.specs.Check.{Clash, clash_after}
 use Rattle.rules.specs.Lead.{lead}
-use Rattle.rules.specs.Waits.{waits, waits_text}
-use Rattle.rules.specs.Bytes.{letter_r, line_text, number_of}
+use Rattle.rules.specs.Bytes.{letter_r, line_text}
 use Rattle.rules.specs.JobText.{reading}
 use Rattle.rules.specs.PlanText.{text_of_plan}
 use Rattle.rules.specs.PlanBack.{read_back}
@@ -55,14 +54,6 @@ written j starts room = started_verdict j starts then in_room (text_of_plan j st
 unfoldable pub plan_read_in : Job → (plan : List ℕ) → ℕ → Outcome (List ℕ)
 plan_read_in j plan room = onward (read_back j plan) (λ starts. in_room starts room)
 
--- why packet k of an accepted job waits: the lines, or 13 where the job has no such packet
-unfoldable pub waited : Job → ℕ → Outcome (List ℕ)
-waited j k = must (ltb k (length j.sources)) 13 0 then is (waits_text (waits j k))
-
--- the same of lists, with room for so many bytes
-unfoldable pub waited_in : Job → ℕ → ℕ → Outcome (List ℕ)
-waited_in j k room = tables j then onward (waited j k) (λ lines. in_room lines room)
-
 -- from a job's bytes: its plan's bytes, or the refusal
 unfoldable pub answer : List ℕ → Outcome (List ℕ)
 answer text = onward (reading text) (λ j. is (text_of_plan j (greedy j)))
@@ -79,16 +70,3 @@ printed (refused number place) = line_text letter_r (number ∷ place ∷ [])
 -- what `plan` prints for a job's bytes
 unfoldable pub plans : List ℕ → List ℕ
 plans text = printed (answer text)
-
--- from a job's bytes, with room for so many: why its packet k waits
-unfoldable pub waited_text : List ℕ → ℕ → ℕ → Outcome (List ℕ)
-waited_text text k room = onward (reading text) (λ j. onward (waited j k) (λ lines. in_room lines room))
-
--- the packet that is named, if a number is
-abbrev pub waited_named : Job → Option ℕ → Outcome (List ℕ)
-waited_named j none = refused 13 0
-waited_named j (some k) = waited j k
-
--- what `why` prints for a job's bytes and those of the argument that names a packet
-unfoldable pub whys : (text named : List ℕ) → List ℕ
-whys text named = printed (onward (reading text) (λ j. waited_named j (number_of named)))

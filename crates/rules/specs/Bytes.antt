@@ -5,7 +5,7 @@ use Rattle.std.proofs.Math.Option.{Option, none, some}
 use Rattle.counting.specs.Count.{pick}
 use Rattle.rules.specs.Sizes.{number_most}
 
--- the bytes with a meaning of their own (C and Q by document 02, request 1, W by request 4); the digit d is the byte 48 + d
+-- the bytes with a meaning of their own (C and Q by document 02, request 1); the digit d is the byte 48 + d
 abbrev pub tab : ℕ
 tab = 9
 
@@ -35,9 +35,6 @@ letter_s = 83
 
 abbrev pub letter_t : ℕ
 letter_t = 84
-
-abbrev pub letter_w : ℕ
-letter_w = 87
 
 -- the digits of n: those of its quotient by ten, then that of the remainder; `more` bounds how many digits come first
 unfoldable pub digits : ℕ → ℕ → List ℕ

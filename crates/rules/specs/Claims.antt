@@ -45,6 +45,10 @@ placed_by f ss xs = placed ss (map f xs)
 unfoldable pub takes : Placed → Resource → ℕ → Bool
 takes b resource step = any_of (λ c. same c.resource resource && eqb (b.start + c.offset) step) b.claimed
 
+-- whether one of those placed takes the resource in the step
+unfoldable pub taken : List Placed → Resource → ℕ → Bool
+taken bs resource step = any_of (λ b. takes b resource step) bs
+
 -- whether two placed packets take one resource in one step
 unfoldable pub conflict : Placed → Placed → Bool
 conflict a b = any_of (λ c. takes b c.resource (a.start + c.offset)) a.claimed

@@ -9,7 +9,6 @@ pub mod Tables
 pub mod Claims
 pub mod Greedy
 pub mod Counts
-pub mod Holder
 pub mod Check
 pub mod Lead
 pub mod Bytes
@@ -17,7 +16,6 @@ pub mod JobText
 pub mod JobWritten
 pub mod PlanText
 pub mod PlanBack
-pub mod Waits
 pub mod Answers
 pub mod CheckedTexts
 pub mod Plain

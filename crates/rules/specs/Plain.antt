@@ -1,12 +1,11 @@
--- Document 01, "The network and its steps" and Check, and document 02, request 4, "Tell me why I wait", said without claims, search or
--- scan. The theorems show that the definitions that compute mean this.
+-- Document 01, "The network and its steps" and Check, said without claims, search or scan. The theorems show that the
+-- definitions that compute mean this.
 use Rattle.std.specs.Prelude.{◌≡◌, List, ℕ, ◌+◌, ◌<◌, ◌≤◌, length, take}
 use Rattle.std.proofs.Math.Option.{some}
 use Rattle.std.proofs.Math.ListN.{get_elem?}
 use Rattle.rules.specs.Network.{Network, Packet}
 use Rattle.rules.specs.Travel.{delay_of, travel}
 use Rattle.rules.specs.Resource.{Resource}
-use Rattle.rules.specs.Waits.{Wait}
 
 -- ---- what a packet takes
 
@@ -76,29 +75,6 @@ pub record Shown (T : Taking) (ps : List Packet) (ss : List ℕ) (k e : ℕ) (re
   pub lowest : (k' at' e' : ℕ) (r : Resource) (t : ℕ) → ConflictAt T ps ss k' at' e' r t → k ≤ k'
   pub first : (at' e' : ℕ) (r : Resource) (t : ℕ) → ConflictAt T ps ss k at' e' r t → at ≤ at'
   pub lowest_there : (e' : ℕ) → ConflictAt T ps ss k at e' resource step → e ≤ e'
-
--- ---- why a packet waits
-
--- packet k, which is p, started at s, and packet e, listed before it, both take the resource in the step
-pub record HeldAt (T : Taking) (ps : List Packet) (ss : List ℕ) (k : ℕ) (p : Packet) (s at e : ℕ) (resource : Resource) (step : ℕ) : Type 0 where
-  pub before : e < k
-  pub other_at : ℕ
-  pub one : T s p at resource step
-  pub other : TakesAt T ps ss e other_at resource step
-
--- the first that packet k, started at s, takes in conflict (a hop, where links are taken); the lowest e there
-pub record HeldUp (T : Taking) (ps : List Packet) (ss : List ℕ) (k : ℕ) (p : Packet) (s at : ℕ) (resource : Resource) (e : ℕ) : Type 0 where
-  pub step : ℕ
-  pub true_conflict : HeldAt T ps ss k p s at e resource step
-  pub first : (at' e' : ℕ) (r : Resource) (t : ℕ) → HeldAt T ps ss k p s at' e' r t → at ≤ at'
-  pub lowest_there : (e' : ℕ) → HeldAt T ps ss k p s at e' resource step → e ≤ e'
-
--- packet k, which is p and has start s, waits for each step before s, in order, and not for s itself
-pub record Waiting (T : Taking) (ps : List Packet) (ss : List ℕ) (k : ℕ) (p : Packet) (s : ℕ) (ws : List Wait) : Type 0 where
-  pub count : length ws ≡ s
-  pub tried : (t : ℕ) (w : Wait) → get_elem? ws t ≡ some w → w.tried ≡ t
-  pub held : (t : ℕ) (w : Wait) → get_elem? ws t ≡ some w → HeldUp T ps ss k p t w.at w.resource w.holder
-  pub free : (at e : ℕ) (r : Resource) (t : ℕ) → HeldAt T ps ss k p s at e r t → ⊥
 
 -- ---- entry of a link, for the lead
 

@@ -35,16 +35,12 @@ hops_most = 16384
 abbrev pub start_most : ℕ
 start_most = 32767
 
--- what no answer exceeds: a start that is found, a plan's bytes, the bytes of a packet's waits (document 02, request 4: for each start
--- that is tried a line of 22 bytes at most), and a lead on either side of zero
+-- what no answer exceeds: a start that is found, a plan's bytes, and a lead on either side of zero
 abbrev pub start_found_most : ℕ
 start_found_most = 16384
 
 abbrev pub plan_most : ℕ
 plan_most = 19473
-
-abbrev pub waits_most : ℕ
-waits_most = 360448
 
 abbrev pub lead_most : ℕ
 lead_most = 33021

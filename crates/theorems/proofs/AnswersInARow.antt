@@ -15,7 +15,7 @@ use Rattle.rules.specs.Greedy.{greedy}
 use Rattle.rules.specs.JobText.{reading}
 use Rattle.rules.specs.PlanText.{text_of_plan}
 use Rattle.rules.specs.Answers.{started_verdict, in_room, planned, written, answer}
-use Rattle.theorems.proofs.Verdicts.{leb_iff, is_iff, must-iff, then_iff, onward-of}
+use Rattle.theorems.proofs.Verdicts.{leb_iff, is_iff, must-iff, then_iff, onward_of}
 use Rattle.theorems.proofs.TextJobs.{reading_job, reading_accepted}
 use Rattle.theorems.proofs.Started.{started_plan_length, greedy_started}
 
@@ -42,4 +42,4 @@ answer_in_a_row text = go (reading text) refl
         let accepted = reading_accepted text j e in
         let started = greedy_started j accepted in
         let plan = (planned-iff j packets_most (greedy j)).1 (accepted, (reading_job text j e).few_packets, refl) in
-        sym (onward-of plan _ ∙ (written-iff j (greedy j) plan_most _).1 (started, started_plan_length j (greedy j) started, refl))
+        sym (onward_of plan _ ∙ (written-iff j (greedy j) plan_most _).1 (started, started_plan_length j (greedy j) started, refl))

@@ -53,9 +53,9 @@ module _ {A : Type 0} (f : A → List Claim) (p : A) where
 abbrev met : List ℕ → List ℕ → ℕ
 met p q = sum_of (λ l. bit (among l q)) p
 
-meetings-of-met : (n : ℕ) (p : List ℕ) (qs : List (List ℕ)) → Simple n p → sum_of (met p) qs ≤ meetings_with n qs p
+meetings_of_met : (n : ℕ) (p : List ℕ) (qs : List (List ℕ)) → Simple n p → sum_of (met p) qs ≤ meetings_with n qs p
 unfolding meetings_with shared
-meetings-of-met n p qs own =
+meetings_of_met n p qs own =
     sum_le (met p) (λ q. shared n p q) qs (λ q m. sum_le-hits (λ l. among l q) p n own.below own.once)
 
 module _ (delay : ℕ → ℕ) where
@@ -81,7 +81,7 @@ module _ (delay : ℕ → ℕ) where
       → s ≤ meetings_with n qs p
   links_start-le-meetings n ts qs p s simple own h =
       le_trans (start-le_sum (link_claims delay 0) p (met p) ts qs s (λ q m. links_pairs-le p q (simple q m).once) h)
-      (meetings-of-met n p qs own)
+      (meetings_of_met n p qs own)
 
 -- ---- packets: their pairs, by what they claim
 
@@ -106,7 +106,7 @@ module _ (net : Network) (p : Packet) where
 
   pub start-le-meetings_with : (n : ℕ) (ts : List ℕ) (qs : List Packet) (s : ℕ)
       → Once qs → Simple n p.path → FirstFree (placed_by (claims_of net) ts qs) (claims_of net p) s → s ≤ meetings_with n (paths_of qs) p.path
-  start-le-meetings_with n ts qs s once own h = le_trans (start-le-met ts qs s once h) (meetings-of-met n p.path (paths_of qs) own)
+  start-le-meetings_with n ts qs s once own h = le_trans (start-le-met ts qs s once h) (meetings_of_met n p.path (paths_of qs) own)
 
 -- ---- C times D
 

@@ -117,6 +117,6 @@ module _ (job : List ℕ) (j : Job) (e : reading job ≡ is j) where
       rw ((texts_found-iff job (text_of_plan j (greedy j)) none).1 (j, greedy j, e, read, checked-greedy_clear j accepted))
 
   -- and that is what `plan` prints for it
-  pub checks-of-plans : checks job (plans job) ≡ clear_text
+  pub checks_of_plans : checks job (plans job) ≡ clear_text
   unfolding plans answer printed
-  checks-of-plans = rw e checks-of_plan
+  checks_of_plans = rw e checks-of_plan

@@ -14,11 +14,10 @@ use Rattle.rules.specs.Check.{Clash, clash_after}
 use Rattle.rules.specs.Plain.{Taking, TakesAt, ConflictAt, Shown}
 use Rattle.theorems.proofs.Conflicts.{Means, takes-iff}
 use Rattle.theorems.proofs.Placements.{placed_by_at, placed_by-split}
-use Rattle.theorems.proofs.Holders.{Holds}
-use Rattle.theorems.proofs.Clashes.{ConflictOn, Seen, clash_seen, clear_iff_no_conflict}
+use Rattle.theorems.proofs.Clashes.{Holds, ConflictOn, Seen, clash_seen, clear_iff_no_conflict}
 
 -- at one place a packet takes one resource in one step
-pub takes_one : {f : Packet → List Claim} {T : Taking} → Means f T → (s : ℕ) (p : Packet) (at : ℕ) {r : Resource} {t : ℕ} {r' : Resource} {t' : ℕ} → T s p at r t → T s p at r' t' → (r ≡ r') × (t ≡ t')
+takes_one : {f : Packet → List Claim} {T : Taking} → Means f T → (s : ℕ) (p : Packet) (at : ℕ) {r : Resource} {t : ℕ} {r' : Resource} {t' : ℕ} → T s p at r t → T s p at r' t' → (r ≡ r') × (t ≡ t')
 takes_one m s p at a b =
     let (c, is_c, rc, tc) = m.takes_claim s p at a in
     let (d, is_d, rd, td) = m.takes_claim s p at b in
@@ -27,13 +26,13 @@ takes_one m s p at a b =
 
 module _ {f : Packet → List Claim} {T : Taking} (m : Means f T) (ps : List Packet) (ss : List ℕ) where
   -- a packet that holds a resource in a step takes it then
-  pub holds_takes : {k : ℕ} {r : Resource} {t : ℕ} → Holds (placed_by f ss ps) r t k → (at : ℕ) × TakesAt T ps ss k at r t
+  holds_takes : {k : ℕ} {r : Resource} {t : ℕ} → Holds (placed_by f ss ps) r t k → (at : ℕ) × TakesAt T ps ss k at r t
   holds_takes {k} {r} {t} (b, at, takes) =
       let st = placed_by-split f ss ps k at in
       let plain = (takes-iff m b.start st.packet r t).0 (rw st.is_placed at takes) in
       (plain.0, record { start = b.start; packet = st.packet; is_start = st.is_start; is_packet = st.is_packet; takes = plain.1 })
 
-  pub takes_holds : {k at : ℕ} {r : Resource} {t : ℕ} → TakesAt T ps ss k at r t → Holds (placed_by f ss ps) r t k
+  takes_holds : {k at : ℕ} {r : Resource} {t : ℕ} → TakesAt T ps ss k at r t → Holds (placed_by f ss ps) r t k
   takes_holds {k} {at} e = (place e.start (f e.packet), placed_by_at f ss ps k e.is_start e.is_packet, (takes-iff m _ _ _ _).1 (at, e.takes))
 
   conflict_plain : {k e : ℕ} {r : Resource} {t : ℕ} → ConflictOn (placed_by f ss ps) k e r t → (at : ℕ) × ConflictAt T ps ss k at e r t
@@ -80,8 +79,8 @@ module _ {f : Packet → List Claim} {T : Taking} (m : Means f T) (ps : List Pac
       }
 
 module _ {f : Packet → List Claim} {T : Taking} (m : Means f T) {ps : List Packet} {ss : List ℕ} where
-  one_taken : {k at e : ℕ} {r : Resource} {t e' : ℕ} {r' : Resource} {t' : ℕ} → ConflictAt T ps ss k at e r t → ConflictAt T ps ss k at e' r' t' → (r ≡ r') × (t ≡ t')
-  one_taken {at = at} a b =
+  one-taken : {k at e : ℕ} {r : Resource} {t e' : ℕ} {r' : Resource} {t' : ℕ} → ConflictAt T ps ss k at e r t → ConflictAt T ps ss k at e' r' t' → (r ≡ r') × (t ≡ t')
+  one-taken {at = at} a b =
       takes_one m a.later.start a.later.packet at a.later.takes
       (rw (some_same (sym a.later.is_start ∙ b.later.is_start), some_same (sym a.later.is_packet ∙ b.later.is_packet)) b.later.takes)
 
@@ -91,7 +90,7 @@ module _ {f : Packet → List Claim} {T : Taking} (m : Means f T) {ps : List Pac
       let b₁ : Shown T ps ss k e' r' t' = rw same_packet b in
       let same_place : b₁.at ≡ a.at = omega (arith, a.first _ _ _ _ b₁.true_conflict, b₁.first _ _ _ _ a.true_conflict) in
       let c : ConflictAt T ps ss k a.at e' r' t' = rw same_place at b₁.true_conflict in
-      let (same_resource, same_step) = one_taken a.true_conflict c in
+      let (same_resource, same_step) = one-taken a.true_conflict c in
       let d : ConflictAt T ps ss k b₁.at e r' t' = rw (same_place, ← same_resource, ← same_step) a.true_conflict in
       let c₂ : ConflictAt T ps ss k a.at e' r t = rw (same_resource, same_step) c in
       (same_packet, omega (arith, a.lowest_there _ c₂, b₁.lowest_there _ d), same_resource, same_step)

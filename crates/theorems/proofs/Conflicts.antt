@@ -10,12 +10,12 @@ use lib.Dec.{eqb}
 use lib.ListN.{take, get_elem?}
 use borrow.Author.Tests.{eqb-true, eq-eqb}
 use Rattle.counting.specs.Count.{any_of}
-use Rattle.counting.proofs.Tests.{and_left, and_right, and_intro, any_mem, any_true}
+use Rattle.counting.proofs.Tests.{and_left, and_right, and_intro, any_mem, any_true, any_swap}
 use Rattle.counting.proofs.Places.{some_same, none_not_some, at_mem, mem_at}
 use Rattle.rules.specs.Network.{Network, Packet}
 use Rattle.rules.specs.Travel.{delay_of, travel}
 use Rattle.rules.specs.Resource.{Resource, same}
-use Rattle.rules.specs.Claims.{Claim, link_claims, claims_of, Placed, place, takes, conflict}
+use Rattle.rules.specs.Claims.{Claim, link_claims, claims_of, Placed, place, takes, taken, conflict, blocked}
 use Rattle.rules.specs.Plain.{Enters, Taking, Takes, Conflict}
 
 -- ---- over any claims
@@ -49,6 +49,11 @@ conflict-iff_both_take a b = (
       (c.0.resource, a.start + c.0.offset, (takes-iff_claim a _ _).1 (c.0, c.1, refl, refl), c.2),
   λ t. let c = (takes-iff_claim a t.0 t.1).0 t.2 in any_mem _ c.1 (rw (c.2, c.3) t.3),
 )
+
+-- a packet is blocked exactly if one of its claims is taken
+pub blocked-taken : (bs : List Placed) (cs : List Claim) (s : ℕ) → blocked bs cs s ≡ any_of (λ c. taken bs c.resource (s + c.offset)) cs
+unfolding blocked conflict taken
+blocked-taken bs cs s = any_swap (λ b c. takes b c.resource (s + c.offset)) bs cs
 
 -- ---- what is claimed means what is taken
 

@@ -19,8 +19,8 @@ EachFirst bs xs = (k : ℕ) (b : Placed) → get_elem? xs k ≡ some b → First
 first_of_each : (bs : List Placed) (x : Placed) (xs : List Placed) → EachFirst bs (x ∷ xs) → FirstFree bs x.claimed x.start
 first_of_each bs x xs h = rw append-nil at (h 0 x refl)
 
-rest-of_each : (bs : List Placed) (x : Placed) (xs : List Placed) → EachFirst bs (x ∷ xs) → EachFirst (bs ++ (x ∷ [])) xs
-rest-of_each bs x xs h k b e = rw append_assoc (h (suc k) b e)
+rest_of_each : (bs : List Placed) (x : Placed) (xs : List Placed) → EachFirst bs (x ∷ xs) → EachFirst (bs ++ (x ∷ [])) xs
+rest_of_each bs x xs h k b e = rw append_assoc (h (suc k) b e)
 
 each_of_first : (bs : List Placed) (x : Placed) (xs : List Placed) → FirstFree bs x.claimed x.start → EachFirst (bs ++ (x ∷ [])) xs → EachFirst bs (x ∷ xs)
 each_of_first bs x xs f h zero b e = rw (append-nil, ← some_same e) f
@@ -40,7 +40,7 @@ each_first_greedy bs [] (s ∷ ss) n h = absurd (omega arith)
 each_first_greedy bs (cs ∷ css) [] n h = absurd (omega arith)
 each_first_greedy bs (cs ∷ css) (s ∷ ss) n h =
     let e : s ≡ first_free bs cs = first_free_unique bs cs s (first_free bs cs) (first_of_each bs (place s cs) (placed ss css) h) (first_free_is bs cs) in
-    let r : ss ≡ greedy_after (bs ++ (place s cs ∷ [])) css = each_first_greedy (bs ++ (place s cs ∷ [])) css ss (omega arith) (rest-of_each bs (place s cs) (placed ss css) h) in
+    let r : ss ≡ greedy_after (bs ++ (place s cs ∷ [])) css = each_first_greedy (bs ++ (place s cs ∷ [])) css ss (omega arith) (rest_of_each bs (place s cs) (placed ss css) h) in
     ap₂ {C = List ℕ} (λ x xs. x ∷ xs) e (rw (← e) r)
 
 pub length-greedy_after : (bs : List Placed) (css : List (List Claim)) → length (greedy_after bs css) ≡ length css

@@ -5,7 +5,6 @@ pub mod Greedies
 pub mod Placements
 pub mod Packets
 pub mod Starts
-pub mod Holders
 pub mod Clashes
 pub mod Checks
 pub mod Paths
@@ -16,10 +15,8 @@ pub mod Bounds
 pub mod Counts
 pub mod OneStep
 pub mod Demands
-pub mod Waits
 pub mod Numbers
 pub mod PlanLength
-pub mod WaitsLength
 pub mod SomeHops
 pub mod Leads
 pub mod Started

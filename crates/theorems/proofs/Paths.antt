@@ -17,7 +17,7 @@ use Rattle.rules.specs.Network.{Network, link_of, link_at}
 use Rattle.rules.specs.Path.{IsPath}
 use Rattle.rules.specs.Outcome.{is, fine}
 use Rattle.rules.specs.Tables.{hop, walk}
-use Rattle.theorems.proofs.Verdicts.{eqb_iff, not_true_iff, refused_not_is, is_iff, must-iff, then_iff, onward_is, onward-of}
+use Rattle.theorems.proofs.Verdicts.{eqb_iff, not_true_iff, refused_not_is, is_iff, must-iff, then_iff, onward_is, onward_of}
 
 -- a path from the node reached on, through the nodes that follow; none of those seen so far is visited again
 record Trail (net : Network) (seen : List ℕ) (reached : ℕ) (path nodes : List ℕ) : Type 0 where
@@ -61,14 +61,14 @@ trail_tail t =
     record { count = suc_inj t.count; leaves = λ p. t.leaves (suc p); enters = λ p. t.enters (suc p); once = rw append_snoc t.once }
 
 module _ (net : Network) (place : ℕ) where
-  trail_of-walk : (reached : ℕ) (seen path : List ℕ) → Distinct seen → walk net place reached seen path ≡ fine → (nodes : List ℕ) × Trail net seen reached path nodes
+  trail_of_walk : (reached : ℕ) (seen path : List ℕ) → Distinct seen → walk net place reached seen path ≡ fine → (nodes : List ℕ) × Trail net seen reached path nodes
   unfolding walk link_at
-  trail_of-walk reached seen [] d h =
+  trail_of_walk reached seen [] d h =
       ([], record { count = refl; leaves = λ p l v a. absurd (none_not_some a); enters = λ p l v a. absurd (none_not_some a); once = rw append-nil d })
-  trail_of-walk reached seen (l ∷ ls) d h =
+  trail_of_walk reached seen (l ∷ ls) d h =
       let (node, a, b) = onward_is (hop place reached seen (link_at net l)) _ h in
       let t = (hop_is_iff place reached seen (get_elem? net.origins l) (get_elem? net.ends l) node).0 a in
-      let (nodes, r) = trail_of-walk node (seen ++ (node ∷ [])) ls (distinct_snoc seen node d t.new) b in
+      let (nodes, r) = trail_of_walk node (seen ++ (node ∷ [])) ls (distinct_snoc seen node d t.new) b in
       (node ∷ nodes, trail_cons l t.leaves t.enters r)
 
   walk_of_trail : (reached : ℕ) (seen path nodes : List ℕ) → Trail net seen reached path nodes → walk net place reached seen path ≡ fine
@@ -81,7 +81,7 @@ module _ (net : Network) (place : ℕ) where
         enters = t.enters 0 l v refl refl;
         new = distinct_new seen v vs t.once;
       }) in
-      onward-of here _ ∙ walk_of_trail v (seen ++ (v ∷ [])) ls vs (trail_tail t)
+      onward_of here _ ∙ walk_of_trail v (seen ++ (v ∷ [])) ls vs (trail_tail t)
 
 head_at : {A : Type 0} (xs : List A) {x : A} → get_elem? xs 0 ≡ some x → (ys : List A) × (xs ≡ x ∷ ys)
 head_at [] e = absurd (none_not_some e)
@@ -92,7 +92,7 @@ walk-fine-iff net place source path = (to, from)
   where
     to : walk net place source (source ∷ []) path ≡ fine → IsPath net source path
     to h =
-        let (nodes, t) = trail_of-walk net place source (source ∷ []) path (distinct_snoc [] source (λ p q n a b. absurd (none_not_some a)) refl) h in
+        let (nodes, t) = trail_of_walk net place source (source ∷ []) path (distinct_snoc [] source (λ p q n a b. absurd (none_not_some a)) refl) h in
         record { visited = source ∷ nodes; count = ap suc t.count; begins = refl; leaves = t.leaves; enters = t.enters; once = t.once }
 
     from : IsPath net source path → walk net place source (source ∷ []) path ≡ fine

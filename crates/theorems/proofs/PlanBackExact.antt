@@ -26,7 +26,7 @@ use Rattle.rules.specs.PlanBack.{Three, three_of, ended, Row, row_of, rows_from,
 use Rattle.rules.specs.PlanBack.{rows_verdict, starts_of, totals_verdict, followed, with_rows, read_back}
 use Rattle.rules.specs.Answers.{started_verdict, in_room, plan_read_in}
 use Rattle.theorems.specs.Jobs.{IsJob}
-use Rattle.theorems.proofs.Verdicts.{leb_iff, eqb_iff, and_iff, is_iff, refused_not_is, must-iff, then_iff, onward_is, onward-of}
+use Rattle.theorems.proofs.Verdicts.{leb_iff, eqb_iff, and_iff, is_iff, refused_not_is, must-iff, then_iff, onward_is, onward_of}
 use Rattle.theorems.proofs.Accepted.{tables-fine-iff, length-paths}
 use Rattle.theorems.proofs.Travels.{PathsFit, travel-le_hops}
 use Rattle.theorems.proofs.PlanLength.{StartsFit, ends_le, congestion-le, dilation-le}
@@ -214,7 +214,7 @@ read_back_started j text ss e =
 -- ---- what the writer writes is accepted
 
 onward_to : {A B : Type 0} {o : Outcome A} {a : A} (f : A → Outcome B) {b : B} → o ≡ is a → f a ≡ is b → onward o f ≡ is b
-onward_to f e g = onward-of e f ∙ g
+onward_to f e g = onward_of e f ∙ g
 
 ended-split : {A : Type 0} (bs : List ℕ) (o : Option A) → ended (split line_feed bs) o ≡ o
 ended-split bs o = let (q, qs, e) = split_first line_feed bs in rw e

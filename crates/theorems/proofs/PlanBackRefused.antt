@@ -132,9 +132,9 @@ text_rows_fewer text rows said =
 
 module _ (j : Job) (text : List ℕ) where
   -- for lists that are no job, the job's own refusal
-  pub read_back-of_no_job : {n p : ℕ} → tables j ≡ refused n p → read_back j text ≡ refused n p
+  pub read_back_of_no_job : {n p : ℕ} → tables j ≡ refused n p → read_back j text ≡ refused n p
   unfolding read_back
-  read_back-of_no_job e = rw e
+  read_back_of_no_job e = rw e
 
   module _ (job : IsJob j) where
     abbrev TooLong : Type 0

@@ -28,18 +28,18 @@ path_between first (stop ∷ stops) hops zero e f = rw (some_same e, some_same f
 path_between first (stop ∷ stops) hops (suc k) e f = path_between stop stops hops k e f
 
 module _ (j : Job) (job : IsJob j) where
-  pub some_hop-of : {p : List ℕ} → Memᴰ p (paths j) → 1 ≤ length p
-  some_hop-of m = (job_path j job m).1.some_hop
+  pub some_hop_of : {p : List ℕ} → Memᴰ p (paths j) → 1 ≤ length p
+  some_hop_of m = (job_path j job m).1.some_hop
 
   -- every stop is greater than the one before it, the first than 0
   pub stops_rise : AtEach ◌<◌ (0 ∷ j.stops) j.stops
   unfolding paths
   stops_rise k a b e f =
-      let hop = some_hop-of (at_mem (paths j) k (path_between 0 j.stops j.hops k e f)) in
+      let hop = some_hop_of (at_mem (paths j) k (path_between 0 j.stops j.hops k e f)) in
       omega (arith, hop, length-drop a (take b j.hops), length-take b j.hops)
 
   travel_pos : {p : List ℕ} → Memᴰ p (paths j) → 1 ≤ travel (delay_in j) p
-  travel_pos {p} m = omega (arith, some_hop-of m, hops_le-travel (delay_in j) p (job_delayed j job m))
+  travel_pos {p} m = omega (arith, some_hop_of m, hops_le-travel (delay_in j) p (job_delayed j job m))
 
   pub start-lt_end : {p : List ℕ} → Memᴰ p (paths j) → (s : ℕ) → s < end_of (delay_in j) s p
   unfolding end_of
@@ -64,7 +64,7 @@ module _ (j : Job) (job : IsJob j) where
         link = get_or (get_or (paths j) 0 []) 0 0
 
         on_it : Memᴰ link (get_or (paths j) 0 [])
-        on_it = at_mem (get_or (paths j) 0 []) 0 (at-get_or (get_or (paths j) 0 []) 0 0 (omega (arith, some_hop-of first_mem)))
+        on_it = at_mem (get_or (paths j) 0 []) 0 (at-get_or (get_or (paths j) 0 []) 0 0 (omega (arith, some_hop_of first_mem)))
 
     pub routing_time_pos : (starts : List ℕ) → 1 ≤ length starts → 1 ≤ routing_time (delay_in j) starts (paths j)
     routing_time_pos starts some_start =

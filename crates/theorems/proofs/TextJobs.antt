@@ -8,7 +8,7 @@ use Prim.Native.Nat.{ℕ, suc, ◌+◌, ◌≤◌, ◌<◌}
 use native.Mathlib.Omega.{arith}
 use lib.ListN.{length, take, length-append}
 use lib.Seq.{take-append_seam, take-append-add, take-append-le, take-length, drop_at}
-use Rattle.counting.proofs.Places.{none_not_some, at_below, nil-of-length}
+use Rattle.counting.proofs.Places.{none_not_some, at_below, nil_of_length}
 use Rattle.rules.specs.Sizes.{nodes_most, links_most, packets_most, hops_most}
 use Rattle.rules.specs.Network.{Job, paths_from, paths, packets_of, packets}
 use Rattle.rules.specs.Claims.{Claim, claims_of, claims}
@@ -88,7 +88,7 @@ module _ (j : Job) (h : IsJob j) where
       packets = λ k s p x. absurd (omega (arith, at_below j.sources k x));
     };
     more = [];
-    front = rw (← nil-of-length j.sources first);
+    front = rw (← nil_of_length j.sources first);
   }
 
   goes_on_packet : (source : ℕ) (path : List ℕ) → length j.sources < packets_most → length j.hops + length path ≤ hops_most → IsPacket j.network source path → GoesOn j (with_packet j source path)

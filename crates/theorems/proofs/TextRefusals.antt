@@ -1,6 +1,5 @@
 -- A text is refused by its own numbers only (specs/TextNumbers.antt), and the place is at most the number of its pieces between
--- line feeds: the other numbers are about lists, rooms, starts, leads and packets. So all that `plan` and `why` print fits the room that
--- always suffices.
+-- line feeds: the other numbers are about lists, rooms, starts and leads. So all that `plan` prints fits the room that always suffices.
 use mathlib.Core.Path.{◌≡◌, refl, ap}
 use mathlib.Core.Bool.{Bool, true, false, not, ◌&&◌}
 use mathlib.Core.List.{List, [], ◌∷◌, ◌++◌}
@@ -10,25 +9,21 @@ use native.Mathlib.Omega.{arith}
 use lib.Dec.{eqb, ltb, leb}
 use lib.ListN.{length, length-append}
 use borrow.Author.Tests.{leb-true, ltb-false}
-use Rattle.counting.specs.Count.{bit, among, any_of}
+use Rattle.counting.specs.Count.{bit, among}
 use Rattle.counting.proofs.Sums.{bit-le-one, sum_le, sum_const}
 use Rattle.counting.proofs.Tests.{or_right, among_none}
-use Rattle.rules.specs.Sizes.{text_most, nodes_most, links_most, packets_most, path_most, hops_most, plan_most, waits_most}
-use Rattle.rules.specs.Bytes.{fields_text, line_text, number_of, split, line_feed}
+use Rattle.rules.specs.Sizes.{text_most, nodes_most, links_most, packets_most, path_most, hops_most, plan_most}
+use Rattle.rules.specs.Bytes.{fields_text, line_text, split, line_feed}
 use Rattle.rules.specs.Network.{Network, Link, link_at, Job}
-use Rattle.rules.specs.Outcome.{Outcome, is, refused, must, ◌then◌, onward}
+use Rattle.rules.specs.Outcome.{Outcome, is, refused, must, ◌then◌}
 use Rattle.rules.specs.Tables.{link_verdict, hop, walk, packet_verdict}
 use Rattle.rules.specs.JobText.{Line, nodes, link, packet, bad, line_of, with_line, with_lines, first_line, all_lines, reading}
-use Rattle.rules.specs.Answers.{answer, printed, plans, waited, waited_named, whys}
-use Rattle.theorems.specs.TextNumbers.{line_numbers, text_numbers, why_numbers, RefusedBy}
-use Rattle.theorems.specs.Jobs.{IsJob}
-use Rattle.theorems.proofs.Verdicts.{refused_not_is, onward_is}
+use Rattle.rules.specs.Answers.{answer, printed, plans}
+use Rattle.theorems.specs.TextNumbers.{line_numbers, text_numbers, RefusedBy}
 use Rattle.theorems.proofs.Refusals.{Refusals, value, refusal, in_turn, onwards, test_refused, By, refused_by}
 use Rattle.theorems.proofs.Numbers.{decimal-length-le}
 use Rattle.theorems.proofs.TextPieces.{split_first, split_count}
 use Rattle.theorems.proofs.Started.{answer-length}
-use Rattle.theorems.proofs.TextJobs.{reading_job}
-use Rattle.theorems.proofs.WaitsLength.{waited-length}
 
 -- ---- one line: each number that is given is one of a line's
 
@@ -100,9 +95,9 @@ split-length-le c bs =
     omega (arith, split_count c bs, sum_le (λ b. bit (eqb b c)) (λ b. 1) bs (λ b m. bit-le-one (eqb b c)), sum_const {A = ℕ} 1 bs)
 
 module _ (text : List ℕ) {last : ℕ} (least : 1 ≤ last) (near : length text ≤ text_most → length (split line_feed text) ≤ last) where
-  reading_up_to : Refusals (By text_numbers last) (reading text)
-  unfolding reading
-  reading_up_to = go (leb (length text) text_most) refl
+  answer_up_to : Refusals (By text_numbers last) (answer text)
+  unfolding answer reading
+  answer_up_to = onwards (go (leb (length text) text_most) refl) (λ j e. value)
     where
       of_line : {o : Outcome Job} → Refusals (By line_numbers last) o → Refusals (By text_numbers last) o
       of_line h = record { each = λ {n} e. (or_right (eqb 1 n) _ (h.each e).0, (h.each e).1) }
@@ -111,56 +106,22 @@ module _ (text : List ℕ) {last : ℕ} (least : 1 ≤ last) (near : length text
       go true e = of_line (all_lines_refused (split line_feed text) least (near (leb-true (length text) text_most e)))
       go false e = refusal (refl, omega arith)
 
-  answer_up_to : Refusals (By text_numbers last) (answer text)
-  unfolding answer
-  answer_up_to = onwards reading_up_to (λ j e. value)
-
-  -- why a packet of the job waits, if one is named
-  named_up_to : (named : Option ℕ) → Refusals (By why_numbers last) (onward (reading text) (λ j. waited_named j named))
-  unfolding waited
-  named_up_to named = onwards (record { each = λ {n} e. (or_right (eqb 13 n) _ (reading_up_to.each e).0, (reading_up_to.each e).1) }) (λ j e. go named j)
-    where
-      go : (named : Option ℕ) (j : Job) → Refusals (By why_numbers last) (waited_named j named)
-      go none j = refusal (refl, omega arith)
-      go (some k) j = in_turn (test_refused (ltb k (length j.sources)) 13 0 (refl, omega arith)) value
-
 -- at 0 or at a line of the text; what follows the last line feed counts as a line, so that an empty text has one
 pub answer_refused : (text : List ℕ) → RefusedBy text_numbers (length (split line_feed text)) (answer text)
 answer_refused text = let (p, ps, e) = split_first line_feed text in refused_by (answer_up_to text (omega (arith, ap length e)) (λ short. omega arith))
 
-pub named_refused : (text : List ℕ) (named : Option ℕ) → RefusedBy why_numbers (length (split line_feed text)) (onward (reading text) (λ j. waited_named j named))
-named_refused text named = let (p, ps, e) = split_first line_feed text in refused_by (named_up_to text (omega (arith, ap length e)) (λ short. omega arith) named)
-
 -- ---- what is printed
 
--- the line of a refusal has at most 11 bytes
-printed-length : {most : ℕ} (numbers : List ℕ) (o : Outcome (List ℕ)) → 11 ≤ most → any_of (ltb 99) numbers ≡ false
-    → ((lines : List ℕ) → o ≡ is lines → length lines ≤ most) → Refusals (By numbers (suc text_most)) o → length (printed o) ≤ most
+printed-length : (o : Outcome (List ℕ)) → ((plan : List ℕ) → o ≡ is plan → length plan ≤ plan_most)
+    → Refusals (By text_numbers (suc text_most)) o → length (printed o) ≤ plan_most
 unfolding printed line_text fields_text
-printed-length numbers (is lines) l two h k = h lines refl
-printed-length numbers (refused n p) l two h k =
-    let digits = decimal-length-le 1 n (omega (arith, ltb-false 99 n (among_none (ltb 99) numbers n two (k.each refl).0))) in
+printed-length (is plan) h k = h plan refl
+printed-length (refused n p) h k =
+    let two : ltb 99 n ≡ false = among_none (ltb 99) text_numbers n refl (k.each refl).0 in
+    let digits = decimal-length-le 1 n (omega (arith, ltb-false 99 n two)) in
     let line = decimal-length-le 4 p (omega (arith, (k.each refl).1)) in
-    simp length-append (omega (arith, digits, line, l))
-
--- the lines of a text are few
-lines_few : (text : List ℕ) → length text ≤ text_most → length (split line_feed text) ≤ suc text_most
-lines_few text short = omega (arith, short, split-length-le line_feed text)
+    simp length-append (omega (arith, digits, line))
 
 pub plans-length : (text : List ℕ) → length (plans text) ≤ plan_most
 unfolding plans
-plans-length text = printed-length text_numbers (answer text) (omega arith) refl (answer-length text) (answer_up_to text (omega arith) (lines_few text))
-
-pub whys-length : (text named : List ℕ) → length (whys text named) ≤ waits_most
-unfolding whys
-whys-length text named =
-    printed-length why_numbers (onward (reading text) (λ j. waited_named j (number_of named))) (omega arith) refl of_lines (named_up_to text (omega arith) (lines_few text) (number_of named))
-  where
-    by_name : (name : Option ℕ) (j : Job) → IsJob j → (lines : List ℕ) → waited_named j name ≡ is lines → length lines ≤ waits_most
-    by_name none j job lines e = absurd (refused_not_is e)
-    by_name (some k) j job lines e = waited-length j job k lines e
-
-    of_lines : (lines : List ℕ) → onward (reading text) (λ j. waited_named j (number_of named)) ≡ is lines → length lines ≤ waits_most
-    of_lines lines e =
-        let (j, read, told) = onward_is (reading text) (λ j. waited_named j (number_of named)) e in
-        by_name (number_of named) j (reading_job text j read) lines told
+plans-length text = printed-length (answer text) (answer-length text) (answer_up_to text (omega arith) (λ short. omega (arith, short, split-length-le line_feed text)))

@@ -4,7 +4,7 @@ use mathlib.Core.List.{List, [], ◌∷◌, ◌++◌, append-nil, append_assoc}
 use Prim.Native.Nat.{ℕ, suc}
 use native.Mathlib.Omega.{arith}
 use lib.ListN.{length}
-use Rattle.counting.proofs.Places.{nil-of-length}
+use Rattle.counting.proofs.Places.{nil_of_length}
 use Rattle.rules.specs.Network.{Job, paths}
 use Rattle.rules.specs.Outcome.{is}
 use Rattle.rules.specs.Bytes.{line_feed, letter_l, letter_p, line_text, split}
@@ -34,7 +34,7 @@ module _ (j : Job) (job : IsJob j) where
   unfolding text_of_job lines_text
   text_with_link from to e =
       let ends : length j.network.origins ≡ length j.network.ends = sym job.ends_count in
-      rw (← nil-of-length j.sources e) (simp (lines_text-snoc, append-nil, append_assoc))
+      rw (← nil_of_length j.sources e) (simp (lines_text-snoc, append-nil, append_assoc))
 
   text_with_packet : (source : ℕ) (path : List ℕ) → text_of_job (with_packet j source path) ≡ text_of_job j ++ line_text letter_p (source ∷ path)
   unfolding text_of_job
@@ -59,7 +59,7 @@ text_with_lines : (n : ℕ) (p : List ℕ) (ps : List (List ℕ)) (j k : Job) �
 unfolding with_lines
 text_with_lines n p [] j k h e =
     let (empty, same) = (then_iff (must-iff 2 n (eqb_iff (length p) 0)) is_iff).0 e in
-    rw (same, ← nil-of-length p empty, append-nil)
+    rw (same, ← nil_of_length p empty, append-nil)
 text_with_lines n p (q ∷ ps) j k h e =
     let (i, a, b) = onward_is (with_line n j (line_of p)) (λ i. with_lines (suc n) i q ps) e in
     rw (text_with_lines (suc n) q ps i k (goes_on_line j h n (line_of p) i a).job b, text_with_line j h n i p (line_of p) (line_says p) a)

@@ -60,8 +60,8 @@ pub onward_is : {A B : Type 0} (o : Outcome A) (f : A → Outcome B) {b : B} →
 onward_is (is a) f e = (a, refl, e)
 onward_is (refused n p) f e = absurd (refused_not_is e)
 
-pub onward-of : {A B : Type 0} {o : Outcome A} {a : A} → o ≡ is a → (f : A → Outcome B) → onward o f ≡ f a
-onward-of e f = ap (λ o. onward o f) e
+pub onward_of : {A B : Type 0} {o : Outcome A} {a : A} → o ≡ is a → (f : A → Outcome B) → onward o f ≡ f a
+onward_of e f = ap (λ o. onward o f) e
 
 pub onward_then : {A B : Type 0} (v : Verdict) (o : Outcome A) (f : A → Outcome B) → onward (v then o) f ≡ (v then onward o f)
 onward_then (is u) o f = refl

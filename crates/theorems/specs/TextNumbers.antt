@@ -11,10 +11,6 @@ line_numbers = 2 ∷ 3 ∷ 4 ∷ 5 ∷ 6 ∷ 7 ∷ 8 ∷ 15 ∷ []
 abbrev pub text_numbers : List ℕ
 text_numbers = 1 ∷ line_numbers
 
--- or, where it is asked why a packet waits, there is no such packet
-abbrev pub why_numbers : List ℕ
-why_numbers = 13 ∷ text_numbers
-
 -- a plan's text, for a job that is accepted: its length, a line's form, how many S lines there are, a start, what does not follow
 abbrev pub plan_numbers : List ℕ
 plan_numbers = 1 ∷ 2 ∷ 11 ∷ 12 ∷ 14 ∷ []

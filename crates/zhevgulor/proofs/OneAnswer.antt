@@ -11,10 +11,8 @@ use Rattle.zhevgulor.specs.declared.TextsAnswer.{TextsAnswer}
 use Rattle.zhevgulor.specs.Told.{LentAs, ReadFor}
 use Rattle.zhevgulor.specs.Promise.{PlanPromise, CheckPromise}
 use Rattle.zhevgulor.specs.PlanBackPromise.{ReadPlanPromise, CheckTextsPromise}
-use Rattle.zhevgulor.specs.WhyPromise.{WhyTextPromise, WhyListsPromise}
 use Rattle.zhevgulor.proofs.Promises.{promise_kept, check_promise_kept}
 use Rattle.zhevgulor.proofs.PlanBackPromises.{read_plan_kept, check_texts_kept}
-use Rattle.zhevgulor.proofs.WhyPromises.{why_kept, why_lists_kept}
 
 pub lent_once : {answer : Outcome (List ℕ)} {a b : Answer} {lent after other : List ℕ} → LentAs answer a lent after → LentAs answer b lent other → (a ≡ b) × (after ≡ other)
 lent_once p q = (p.answered ∙ sym q.answered, p.list ∙ sym q.list)
@@ -37,9 +35,3 @@ check_texts_promise_once job plan lent p q =
     let v = check_texts_kept job plan lent p in
     let w = check_texts_kept job plan lent q in
     (v.answered ∙ sym w.answered, v.list ∙ sym w.list)
-
-pub why_promise_once : (text : List ℕ) (k : ℕ) (lent : List ℕ) {a b : Answer} {after other : List ℕ} → WhyTextPromise text k lent a after → WhyTextPromise text k lent b other → (a ≡ b) × (after ≡ other)
-why_promise_once text k lent p q = lent_once (why_kept text k lent p) (why_kept text k lent q)
-
-pub why_lists_promise_once : (j : Job) (k : ℕ) (lent : List ℕ) {a b : Answer} {after other : List ℕ} → WhyListsPromise j k lent a after → WhyListsPromise j k lent b other → (a ≡ b) × (after ≡ other)
-why_lists_promise_once j k lent p q = lent_once (why_lists_kept j k lent p) (why_lists_kept j k lent q)

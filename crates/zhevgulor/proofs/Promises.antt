@@ -16,7 +16,7 @@ use Rattle.rules.specs.JobText.{reading}
 use Rattle.rules.specs.PlanText.{text_of_plan}
 use Rattle.rules.specs.Answers.{in_room, lent_after, started_verdict, checked, answer, answered}
 use Rattle.theorems.specs.Jobs.{IsStarted}
-use Rattle.theorems.proofs.Verdicts.{refused_not_is, refused_for, then_is_iff, onward-of}
+use Rattle.theorems.proofs.Verdicts.{refused_not_is, refused_for, then_is_iff, onward_of}
 use Rattle.theorems.proofs.Starts.{length-greedy, greedy-Starts, only_greedy_starts, greedy-front-packets}
 use Rattle.theorems.proofs.Demands.{job_bounded}
 use Rattle.theorems.proofs.Started.{started_fine-iff}
@@ -84,7 +84,7 @@ plan_is : (text plan : List ℕ) → PlanOf text plan → answer text ≡ is pla
 unfolding answer
 plan_is text plan p =
     let (says, first) = p.in_text in
-    onward-of (says_reading text p.job says) _ ∙ ap is (ap (text_of_plan p.job) (sym (only_greedy_starts p.job p.starts first)) ∙ sym p.written)
+    onward_of (says_reading text p.job says) _ ∙ ap is (ap (text_of_plan p.job) (sym (only_greedy_starts p.job p.starts first)) ∙ sym p.written)
 
 pub promise_kept : (text lent : List ℕ) {told : Answer} {after : List ℕ} → PlanPromise text lent told after → LentAs (answered text (length lent)) told lent after
 unfolding answered answer in_room lent_after

@@ -1,22 +1,20 @@
 -- By which numbers the functions that read texts refuse: by those of a text, or by 10; and a plan's by its own.
-use mathlib.Core.Path.{◌≡◌, refl, sym, ◌∙◌}
+use mathlib.Core.Path.{◌≡◌, refl, sym}
 use mathlib.Core.Bool.{Bool, true, false}
 use mathlib.Core.Logic.{◌⊎◌, inl, inr}
 use mathlib.Core.List.{List}
-use mathlib.Core.Option.{some}
 use Prim.Native.Nat.{ℕ}
 use lib.Dec.{leb}
 use lib.ListN.{length}
 use Rattle.counting.specs.Count.{among}
 use Rattle.rules.specs.Network.{Job}
 use Rattle.rules.specs.Outcome.{Outcome, is, refused, must, ◌then◌, onward}
-use Rattle.rules.specs.Answers.{in_room, answer, answered, plan_read_in, waited_named, waited_text}
-use Rattle.rules.specs.JobText.{reading}
+use Rattle.rules.specs.Answers.{in_room, answer, answered, plan_read_in}
 use Rattle.rules.specs.PlanBack.{read_back}
 use Rattle.theorems.specs.Jobs.{IsJob}
-use Rattle.theorems.specs.TextNumbers.{text_numbers, plan_numbers, why_numbers, RefusedBy}
+use Rattle.theorems.specs.TextNumbers.{text_numbers, plan_numbers, RefusedBy}
 use Rattle.theorems.proofs.Verdicts.{refused_not_is, refused_same}
-use Rattle.theorems.proofs.TextRefusals.{answer_refused, named_refused}
+use Rattle.theorems.proofs.TextRefusals.{answer_refused}
 use Rattle.theorems.proofs.PlanBackRefused.{read_back_refused}
 
 -- what is refused by some numbers is refused, with a room, by these or by 10
@@ -30,19 +28,9 @@ in_room_refuses (is a) room {n} {p} h e = inr (short (leb (length a) room) e)
     short false e = sym (refused_same e).0
 in_room_refuses (refused k q) room h e = inl (rw (sym (refused_same e).0) (h.number refl))
 
--- one step after another, in a row
-onward-onward : {A B C : Type 0} (o : Outcome A) (f : A → Outcome B) (g : B → Outcome C) → onward o (λ a. onward (f a) g) ≡ onward (onward o f) g
-onward-onward (is a) f g = refl
-onward-onward (refused n p) f g = refl
-
 pub answered_refuses : (text : List ℕ) (room : ℕ) {n p : ℕ} → answered text room ≡ refused n p → (among n text_numbers ≡ true) ⊎ (n ≡ 10)
 unfolding answered
 answered_refuses text room e = in_room_refuses (answer text) room (answer_refused text) e
-
--- why a packet waits
-pub why_refuses : (text : List ℕ) (k room : ℕ) {n p : ℕ} → waited_text text k room ≡ refused n p → (among n why_numbers ≡ true) ⊎ (n ≡ 10)
-unfolding waited_text
-why_refuses text k room e = in_room_refuses (onward (reading text) (λ j. waited_named j (some k))) room (named_refused text (some k)) (sym (onward-onward (reading text) (λ j. waited_named j (some k)) (λ lines. in_room lines room)) ∙ e)
 
 -- for lists that are a job
 pub read_plan_refuses : (j : Job) → IsJob j → (plan : List ℕ) (room : ℕ) {n p : ℕ} → plan_read_in j plan room ≡ refused n p

@@ -1,4 +1,3 @@
 pub mod Told
 pub mod Promise
 pub mod PlanBackPromise
-pub mod WhyPromise

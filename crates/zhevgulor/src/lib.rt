@@ -11,7 +11,6 @@ ghost use Rattle.plan_text.specs.Told.{written_of};
 ghost use Rattle.zhevgulor.specs.Told.{answer_for, lead_for, read_for, about_text, LentAs, ReadFor};
 ghost use Rattle.zhevgulor.specs.Promise.{PlanPromise, CheckPromise};
 ghost use Rattle.zhevgulor.specs.PlanBackPromise.{ReadPlanPromise, CheckTextsPromise};
-ghost use Rattle.zhevgulor.specs.WhyPromise.{WhyTextPromise, WhyListsPromise};
 
 use checking::Texts;
 use job::{Refusal, Step, Verdict};
@@ -317,31 +316,4 @@ pub extern "C" fn zhevgulor_check_texts(job: &[u8], plan: &[u8], clash: &mut [u3
         Texts::JobRefused(refusal) => about(1, refused(refusal)),
         Texts::PlanRefused(refusal) => about(2, refused(refusal)),
     }
-}
-
-// Why a packet of the job waits that a text says: value is the number of bytes of the lines, which stand in the first places.
-#[unsafe(no_mangle)]
-pub extern "C" fn zhevgulor_why(job: &[u8], packet: u32, room: &mut [u8]) -> Answer
-    ensures { WhyTextPromise (given job) packet (given room) result (left room) }
-{
-    let lines = waiting::from_text::write(job, packet, room);
-    told(lines)
-}
-
-// The same of a job as lists.
-#[unsafe(no_mangle)]
-pub extern "C" fn zhevgulor_why_lists(
-    nodes: u16,
-    origins: &[u16],
-    ends: &[u16],
-    sources: &[u16],
-    stops: &[u16],
-    hops: &[u16],
-    packet: u32,
-    room: &mut [u8],
-) -> Answer
-    ensures { WhyListsPromise (job_in nodes origins ends sources stops hops) packet (given room) result (left room) }
-{
-    let lines = waiting::write(nodes, origins, ends, sources, stops, hops, packet, room);
-    told(lines)
 }

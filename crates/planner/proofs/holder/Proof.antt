@@ -3,7 +3,7 @@ use mathlib.Core.Path.{◌≡◌, refl, sym, ◌∙◌}
 use Prim.Native.Nat.{◌-◌, ◌≤◌}
 use native.Mathlib.Omega.{arith}
 use borrow.Author.Rules.{rules}
-use Rattle.rules.specs.Holder.{holder}
+use Rattle.rules.specs.Check.{holder}
 use Rattle.planner.specs.PacketsInLists.{before}
 use Rattle.planner.proofs.Clashing.{holder_from, holder-here, holder_later, holder_nowhere}
 use Rattle.planner.proofs.holder.Statement.{statement}

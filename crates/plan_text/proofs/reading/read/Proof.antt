@@ -2,7 +2,7 @@
 use mathlib.Core.List.{[]}
 use borrow.Author.Rules.{rules}
 use Rattle.plan_text.proofs.Finding.{array_places}
-use Rattle.plan_text.proofs.ReadingBack.{tables-lists, tables-of_a_job, back_no_job, back_too_long, back_lines_refused, found_room, back_no_room, back_starts}
+use Rattle.plan_text.proofs.ReadingBack.{tables-lists, tables_of_a_job, back_no_job, back_too_long, back_lines_refused, found_room, back_no_room, back_starts}
 use Rattle.plan_text.proofs.reading.read.Statement.{statement}
 use Rattle.plan_text.proofs.reading.read.Tie as tie
 
@@ -15,7 +15,7 @@ returns-2 c = back_too_long _ _ _ c.before.before.before.tables.ensures c.before
 find-starts-requires : tie.Need-find-starts-requires
 find-starts-requires c κs =
     let job = c.before.before in
-    (tables-of_a_job _ job.before.before.tables.ensures job.enum_told.given.1, c.before.if1.false, array_places)
+    (tables_of_a_job _ job.before.before.tables.ensures job.enum_told.given.1, c.before.if1.false, array_places)
 
 returns-3 : tie.Need-returns-3
 returns-3 c =
