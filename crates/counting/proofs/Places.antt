@@ -44,7 +44,7 @@ module _ {A : Type 0} where
   at_mem (y ∷ ys) zero e = here (sym (some_same e))
   at_mem (y ∷ ys) (suc i) e = there (at_mem ys i e)
 
-  pub mem_at : {xs : List A} {x : A} → Memᴰ x xs → (i : ℕ) × (get_elem? xs i ≡ some x)
+  pub mem_at : {x : A} {xs : List A} → Memᴰ x xs → (i : ℕ) × (get_elem? xs i ≡ some x)
   mem_at (here e) = (0, ap {B = Option A} some (sym e))
   mem_at (there m) = let r = mem_at m in (suc r.0, r.1)
 

@@ -46,7 +46,7 @@ sum_paths f a (e ∷ es) hops t =
 
 pub mem-paths : (a : ℕ) (stops hops : List ℕ) → stops_agree a stops (length hops) ≡ true → {l : ℕ} → Memᴰ l (drop a hops) → (p : List ℕ) × Memᴰ p (paths_from a stops hops) × Memᴰ l p
 unfolding paths_from
-mem-paths a [] hops t m = absurd (Memᴰ.not_nil (rw (none_left a hops t) at m))
+mem-paths a [] hops t m = absurd (Memᴰ.not-nil (rw (none_left a hops t) at m))
 mem-paths a (e ∷ es) hops t m =
     let w = parted a e es hops t in
     ⊎_elim (λ i. (slice a e hops, here refl, i)) (λ i. let (p, n, k) = mem-paths e es hops w.rest i in (p, there n, k))

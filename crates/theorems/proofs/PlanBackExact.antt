@@ -119,7 +119,7 @@ module _ (delay : ℕ → ℕ) where
 
   rows_in_time : (n : ℕ) (rows : List Row) (ps : List (List ℕ)) → length rows ≡ length ps → rows_verdict delay n rows ps ≡ fine
       → StartsFit (starts_of rows)
-  rows_in_time n [] ps c e s m = absurd (Memᴰ.not_nil m)
+  rows_in_time n [] ps c e s m = absurd (Memᴰ.not-nil m)
   rows_in_time n (r ∷ rows) [] c e s m = absurd (omega arith)
   rows_in_time n (r ∷ rows) (p ∷ ps) c e s m =
       let (in_time, (follows, rest)) = (row_fine-iff n r rows p ps).0 e in
@@ -223,6 +223,7 @@ sayable_three : {a b c : ℕ} → a ≤ number_most → b ≤ number_most → c 
 sayable_three f g h n (here e) = omega arith
 sayable_three f g h n (there (here e)) = omega arith
 sayable_three f g h n (there (there (here e))) = omega arith
+sayable_three {a = a} {b = b} {c = c} f g h n (there (there (there m))) = elim m [ ]
 
 module _ (delay : ℕ → ℕ) where
   -- a row for each start and path

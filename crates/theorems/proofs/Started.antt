@@ -36,7 +36,7 @@ use Rattle.theorems.proofs.Demands.{starts_count, job_bounded}
 
 starts_fine-iff : (k : ℕ) (ss : List ℕ) → (starts_verdict k ss ≡ fine) ↔ ((s : ℕ) → Memᴰ s ss → s ≤ start_most)
 unfolding starts_verdict
-starts_fine-iff k [] = (λ e s m. absurd (Memᴰ.not_nil m), λ h. refl)
+starts_fine-iff k [] = (λ e s m. absurd (Memᴰ.not-nil m), λ h. refl)
 starts_fine-iff k (s ∷ ss) = Iff.trans (then_iff (must-iff _ _ (leb_iff s start_most)) (starts_fine-iff (suc k) ss)) (both, λ h. (h s (here refl), λ t m. h t (there m)))
   where
     both : (s ≤ start_most) × ((t : ℕ) → Memᴰ t ss → t ≤ start_most) → (t : ℕ) → Memᴰ t (s ∷ ss) → t ≤ start_most

@@ -59,10 +59,12 @@ reads_line i k j letter ns bs l h a r n = rw (split_line letter ns bs l, after_l
 module _ (j : Job) (job : IsJob j) where
   sayable_nodes : Sayable (j.network.nodes ∷ [])
   sayable_nodes n (here e) = omega (arith, e, job.few_nodes)
+  sayable_nodes n (there m) = elim m [ ]
 
   sayable_link : {from to : ℕ} → IsLink j.network.nodes from to → Sayable (from ∷ to ∷ [])
   sayable_link h n (here e) = omega (arith, e, h.from_node, job.few_nodes)
   sayable_link h n (there (here e)) = omega (arith, e, h.to_node, job.few_nodes)
+  sayable_link {from = from} {to = to} h n (there (there m)) = elim m [ ]
 
   sayable_packet : {source : ℕ} {path : List ℕ} → IsPacket j.network source path → Sayable (source ∷ path)
   sayable_packet h n (here e) = omega (arith, e, h.source_node, job.few_nodes)

@@ -1,1 +1,2 @@
 // What follows from the rules: theorems in proofs/, listed in docs/THEOREMS.md. No code.
+#![tactic(auto)]
