@@ -1,6 +1,7 @@
 // From a job's text to what is printed for it, in a room that every plan fits.
+#![tactic(auto)]
+
 ghost use Rattle.std.specs.Prelude.{◌≡◌, ◌≤◌, length};
-ghost use Rattle.rules.specs.Handed.{given, left};
 ghost use Rattle.rules.specs.Sizes.{plan_most};
 ghost use Rattle.rules.specs.Answers.{plans};
 ghost use Rattle.answer.specs.Told.{PrintedAs};
@@ -21,8 +22,8 @@ pub fn plan_most() -> usize
 
 // What the program `plan` prints for a job's bytes, the plan or the line that tells why there is none, and how many bytes it is.
 pub fn print(text: &[u8], room: &mut [u8; ROOM]) -> usize
-    ensures printed_as { PrintedAs (plans (given text)) result (given room) (left room) }
-    ensures near { result ≤ length (left room) }
+    ensures printed_as { PrintedAs (plans text.now) result room.old room.new }
+    ensures near { result ≤ length room.new }
 {
     let told = from_text::answer(text, room);
     match told {

@@ -1,4 +1,6 @@
 // The program `check`: a job and a plan in the two files that are named, and on standard output what the check of the plan finds.
+#![tactic(auto)]
+
 ghost use Rattle.std.specs.Prelude.{◌≤◌, length};
 
 use checking::ROOM;

@@ -1,11 +1,12 @@
 // From a job's text and a plan's text to a clash, and to what is printed: both readers and the check in a row.
+#![tactic(auto)]
+
 ghost use Rattle.std.specs.Prelude.{◌≡◌, [], ◌∷◌, ◌≤◌, length};
-ghost use Rattle.rules.specs.Handed.{given, left};
 ghost use Rattle.rules.specs.Outcome.{onward};
 ghost use Rattle.rules.specs.Bytes.{line_text};
 ghost use Rattle.rules.specs.Answers.{plan_read_in, checked as checked_starts};
 ghost use Rattle.rules.specs.CheckedTexts.{of_plan, checked_texts, clear_text, checks};
-ghost use Rattle.job.specs.Lists.{job_in};
+ghost use Rattle.job.specs.Lists.{job_of};
 ghost use Rattle.job.specs.Told.{number_place};
 ghost use Rattle.answer.specs.Told.{PrintedAs};
 ghost use Rattle.checking.specs.Told.{texts_of};
@@ -40,8 +41,8 @@ fn checked_plan(
     plan: &[u8],
     starts: &mut [u16],
 ) -> Texts
-    ensures { texts_of result ≡ of_plan (onward (plan_read_in (job_in nodes origins ends sources stops hops) (given plan) (length (given starts)))
-        (λ starts. checked_starts (job_in nodes origins ends sources stops hops) starts)) }
+    ensures { texts_of result ≡ of_plan (onward (plan_read_in (job_of nodes origins.now ends.now sources.now stops.now hops.now) plan.now (length starts.old))
+        (λ starts. checked_starts (job_of nodes origins.now ends.now sources.now stops.now hops.now) starts)) }
 {
     let verdict = plan_text::reading::read(
         nodes, origins, ends, sources, stops, hops, plan, starts,
@@ -78,7 +79,7 @@ fn checked_plan(
 
 // The check of a plan's text for a job's text.
 pub fn check(job: &[u8], plan: &[u8]) -> Texts
-    ensures { texts_of result ≡ checked_texts (given job) (given plan) }
+    ensures { texts_of result ≡ checked_texts job.now plan.now }
 {
     let mut origins = [0; Job::LINKS];
     let mut ends = [0; Job::LINKS];
@@ -119,7 +120,7 @@ pub const ROOM: usize = 46;
 // Writes the word `clear`.
 fn clear(room: &mut [u8]) -> usize
     requires { length clear_text ≤ length room.old }
-    ensures { PrintedAs clear_text result (given room) (left room) }
+    ensures { PrintedAs clear_text result room.old room.new }
 {
     room[0] = b'c';
     room[1] = b'l';
@@ -132,7 +133,7 @@ fn clear(room: &mut [u8]) -> usize
 
 // Writes the line of a refusal: a letter, its number and its place.
 fn refusal_line(room: &mut [u8; ROOM], letter: u8, refusal: Refusal) -> usize
-    ensures { PrintedAs (line_text letter ((number_place refusal).0 ∷ (number_place refusal).1 ∷ [])) result (given room) (left room) }
+    ensures { PrintedAs (line_text letter ((number_place refusal).0 ∷ (number_place refusal).1 ∷ [])) result room.old room.new }
 {
     let number = refusal.number();
     let place = refusal.place();
@@ -141,8 +142,8 @@ fn refusal_line(room: &mut [u8; ROOM], letter: u8, refusal: Refusal) -> usize
 
 // What the program `check` prints for a job's text and a plan's text, and how many bytes it is.
 pub fn print(job: &[u8], plan: &[u8], room: &mut [u8; ROOM]) -> usize
-    ensures printed_as { PrintedAs (checks (given job) (given plan)) result (given room) (left room) }
-    ensures near { result ≤ length (left room) }
+    ensures printed_as { PrintedAs (checks job.now plan.now) result room.old room.new }
+    ensures near { result ≤ length room.new }
 {
     let texts = check(job, plan);
     match texts {

@@ -1,4 +1,6 @@
 // The bytes of an open file, for the programs: all of them, or as many as a list has places.
+#![tactic(auto)]
+
 ghost use Rattle.std.specs.Prelude.{◌≤◌, length};
 
 // How many bytes were read, and whether the system failed at the next.

@@ -1,6 +1,5 @@
 -- The lists that code is lent, as a job of the rules.
 use Rattle.std.specs.Prelude.{Bool, ◌&&◌, List, map, ℕ, leb, get_or}
-use Rattle.rules.specs.Handed.{Handed, given}
 use Rattle.rules.specs.Sizes.{nodes_most, links_most, packets_most, hops_most}
 use Rattle.rules.specs.Network.{Network, Job}
 
@@ -10,14 +9,6 @@ network_of nodes origins ends = record { nodes = nodes; origins = origins; ends 
 abbrev pub job_of : ℕ → (origins ends sources stops hops : List ℕ) → Job
 job_of nodes origins ends sources stops hops =
     record { network = network_of nodes origins ends; sources = sources; stops = stops; hops = hops }
-
--- the network, and the job, in the lists that a function is handed
-abbrev pub network_in : {A B : Type 0} → ℕ → Handed A → Handed B → Network
-network_in nodes origins ends = network_of nodes (given origins) (given ends)
-
-abbrev pub job_in : {A B C D E : Type 0} → ℕ → Handed A → Handed B → Handed C → Handed D → Handed E → Job
-job_in nodes origins ends sources stops hops =
-    job_of nodes (given origins) (given ends) (given sources) (given stops) (given hops)
 
 -- the nodes that these links enter
 unfoldable pub entered : List ℕ → List ℕ → List ℕ

@@ -1,12 +1,13 @@
 // A job as lists: its sizes, steps and hops, what can be refused, and the verdict on its tables.
+#![tactic(auto)]
+
 ghost use Rattle.std.specs.Prelude.{◌≡◌, true, [], ◌∷◌, ℕ, ◌+◌, ◌≤◌, ◌<◌, length, get_or, take};
 ghost use Rattle.counting.specs.Count.{among};
-ghost use Rattle.rules.specs.Handed.{given, left};
 ghost use Rattle.rules.specs.Sizes.{nodes_most, links_most, packets_most, path_most, hops_most, text_most, plan_most, start_most};
 ghost use Rattle.rules.specs.Network.{paths};
 ghost use Rattle.rules.specs.Tables.{link_verdict, walk as walk_verdict, packet_verdict, links_verdict, packets_verdict, stops_agree, tables as tables_verdict};
 ghost use Rattle.rules.specs.Answers.{starts_verdict, started_verdict};
-ghost use Rattle.job.specs.Lists.{network_of, network_in, job_in, entered, sizes_fit};
+ghost use Rattle.job.specs.Lists.{network_of, job_of, entered, sizes_fit};
 ghost use Rattle.job.specs.Told.{number_place, verdict_of};
 ghost use Rattle.job.specs.Visited.{mark_of, with_visit, MarkedAs};
 
@@ -206,7 +207,7 @@ pub fn link_verdict(nodes: u16, from: u16, to: u16, place: u32) -> Verdict
 // Whether the node is the source, or one that the first links of the path enter.
 fn visited(ends: &[u16], path: &[u16], count: usize, source: u16, node: u16) -> bool
     requires { (count ≤ length path.now) × ((q : ℕ) → q < count → get_or path.now q 0 < length ends.now) }
-    ensures { result ≡ among node (source ∷ entered (given ends) (take count (given path))) }
+    ensures { result ≡ among node (source ∷ entered ends.now (take count path.now)) }
 {
     if source == node {
         return true;
@@ -232,7 +233,7 @@ fn mark_of(node: usize) -> usize
 
 // Marks a node as visited, where it has a mark: a node of a job does.
 fn visit(words: &mut [u64], node: u16)
-    ensures { left words ≡ with_visit (given words) node }
+    ensures { words.new ≡ with_visit words.old node }
 {
     let n = wide(node);
     if n < Job::NODES {
@@ -244,7 +245,7 @@ fn visit(words: &mut [u64], node: u16)
 fn seen(words: &[u64], ends: &[u16], path: &[u16], count: usize, source: u16, node: u16) -> bool
     requires { (count ≤ length path.now) × ((q : ℕ) → q < count → get_or path.now q 0 < length ends.now)
         × MarkedAs (source ∷ entered ends.now (take count path.now)) words.now }
-    ensures { result ≡ among node (source ∷ entered (given ends) (take count (given path))) }
+    ensures { result ≡ among node (source ∷ entered ends.now (take count path.now)) }
 {
     let asked = wide(node);
     if asked < Job::NODES {
@@ -255,7 +256,7 @@ fn seen(words: &[u64], ends: &[u16], path: &[u16], count: usize, source: u16, no
 
 // The path hop by hop, from its source.
 fn walk(origins: &[u16], ends: &[u16], path: &[u16], source: u16, place: u32) -> Verdict
-    ensures { (n : ℕ) → verdict_of result ≡ walk_verdict (network_of n (given origins) (given ends)) place source (source ∷ []) (given path) }
+    ensures { (n : ℕ) → verdict_of result ≡ walk_verdict (network_of n origins.now ends.now) place source (source ∷ []) path.now }
 {
     let mut words = [0u64; NODE_WORDS];
     visit(&mut words, source);
@@ -292,7 +293,7 @@ pub fn packet_verdict(
     source: u16,
     place: u32,
 ) -> Verdict
-    ensures { verdict_of result ≡ packet_verdict (network_in nodes origins ends) place source (given path) }
+    ensures { verdict_of result ≡ packet_verdict (network_of nodes origins.now ends.now) place source path.now }
 {
     if path.len() > Job::PATH {
         return Verdict::Refused(Refusal::Size(place));
@@ -308,7 +309,7 @@ pub fn packet_verdict(
 
 // Whether the stops never fall, and the last is the number of hops.
 fn stops_agree(stops: &[u16], hops: usize) -> bool
-    ensures { result ≡ stops_agree 0 (given stops) hops }
+    ensures { result ≡ stops_agree 0 stops.now hops }
 {
     let mut last = 0;
     let mut k = 0;
@@ -336,7 +337,7 @@ fn sizes_fit(nodes: u16, links: usize, packets: usize, hops: usize) -> bool
 // The links in order.
 fn links_verdict(nodes: u16, origins: &[u16], ends: &[u16]) -> Verdict
     requires { (length ends.now ≡ length origins.now) × (length origins.now ≤ links_most) }
-    ensures { verdict_of result ≡ links_verdict nodes 0 (given origins) (given ends) }
+    ensures { verdict_of result ≡ links_verdict nodes 0 origins.now ends.now }
 {
     let mut l = 0;
     while l < origins.len() {
@@ -360,8 +361,8 @@ fn packets_verdict(
 ) -> Verdict
     requires { (length stops.now ≡ length sources.now) × (length sources.now ≤ packets_most)
         × (stops_agree 0 stops.now (length hops.now) ≡ true) }
-    ensures { verdict_of result ≡ packets_verdict (network_in nodes origins ends) 0 (given sources)
-        (paths (job_in nodes origins ends sources stops hops)) }
+    ensures { verdict_of result ≡ packets_verdict (network_of nodes origins.now ends.now) 0 sources.now
+        (paths (job_of nodes origins.now ends.now sources.now stops.now hops.now)) }
 {
     let mut from = 0;
     let mut k = 0;
@@ -386,7 +387,7 @@ pub fn tables(
     stops: &[u16],
     hops: &[u16],
 ) -> Verdict
-    ensures { verdict_of result ≡ tables_verdict (job_in nodes origins ends sources stops hops) }
+    ensures { verdict_of result ≡ tables_verdict (job_of nodes origins.now ends.now sources.now stops.now hops.now) }
 {
     if origins.len() != ends.len() {
         return Verdict::Refused(Refusal::Disagree);
@@ -410,7 +411,7 @@ pub fn tables(
 // The lowest packet whose start is too late.
 fn starts_verdict(starts: &[u16]) -> Verdict
     requires { length starts.now ≤ packets_most }
-    ensures { verdict_of result ≡ starts_verdict 0 (given starts) }
+    ensures { verdict_of result ≡ starts_verdict 0 starts.now }
 {
     let mut packet = 0;
     while packet < starts.len() {
@@ -432,7 +433,7 @@ pub fn started(
     hops: &[u16],
     starts: &[u16],
 ) -> Verdict
-    ensures { verdict_of result ≡ started_verdict (job_in nodes origins ends sources stops hops) (given starts) }
+    ensures { verdict_of result ≡ started_verdict (job_of nodes origins.now ends.now sources.now stops.now hops.now) starts.now }
 {
     let verdict = tables(nodes, origins, ends, sources, stops, hops);
     let Verdict::Fine = verdict else {

@@ -1,8 +1,6 @@
 -- Document 01, "Refusals and their order", Text: what the reader answers, and what the five lists it is lent hold afterwards.
 use Rattle.std.specs.Prelude.{◌≡◌, Bool, ◌&&◌, ◌||◌, List, [], ◌++◌, ℕ, ◌-◌, eqb, leb, length, replicate}
 use Rattle.counting.specs.Count.{pick}
-use Rattle.std.specs.Borrow.{Bor}
-use Rattle.rules.specs.Handed.{Handed, given, left}
 use Rattle.rules.specs.Sizes.{text_most, links_most, packets_most, hops_most}
 use Rattle.rules.specs.Network.{Job}
 use Rattle.rules.specs.Outcome.{Outcome, is, refused, must, ◌then◌, onward}
@@ -22,16 +20,6 @@ pub record Lists : Type 0 where
 
 abbrev pub lists : (origins ends sources stops hops : List ℕ) → Lists
 lists origins ends sources stops hops = record { origins = origins; ends = ends; sources = sources; stops = stops; hops = hops }
-
--- the five lists that a function is handed, at the call and at the return
-abbrev pub lists_given : {A B C D E : Type 0} → Handed A → Handed B → Handed C → Handed D → Handed E → Lists
-lists_given origins ends sources stops hops = lists (given origins) (given ends) (given sources) (given stops) (given hops)
-
-abbrev pub Lent : Type 0
-Lent = Handed (Bor (List ℕ))
-
-abbrev pub lists_left : (origins ends sources stops hops : Lent) → Lists
-lists_left origins ends sources stops hops = lists (left origins) (left ends) (left sources) (left stops) (left hops)
 
 -- lists so long are none shorter than its size
 abbrev pub room_for : (origins ends sources stops hops : ℕ) → Bool

@@ -1,11 +1,12 @@
 // The reader of job texts: bytes in, the lists of a job out.
+#![tactic(auto)]
+
 ghost use Rattle.std.specs.Prelude.{◌≡◌, List, ℕ, ◌+◌, ◌≤◌, length, take, drop};
-ghost use Rattle.rules.specs.Handed.{given, left};
 ghost use Rattle.rules.specs.Sizes.{text_most, links_most};
 ghost use Rattle.rules.specs.Bytes.{line_feed, letter_l, letter_n, letter_p, split};
 ghost use Rattle.rules.specs.JobText.{Line as Said, link, packet as packet_line, with_line, first_line, all_lines};
 ghost use Rattle.theorems.specs.TextRest.{with_rest};
-ghost use Rattle.job_text.specs.Told.{Lists, lists, lists_given, lists_left, room_for, read_in, ReadAs};
+ghost use Rattle.job_text.specs.Told.{Lists, lists, room_for, read_in, ReadAs};
 ghost use Rattle.job_text.specs.LineInText.{bad_line, said_at, said_behind, line_told, PathStands, LineAs, FoundAs};
 ghost use Rattle.job_text.specs.SoFar.{so_far, counted_of, if_fine, Room, Within, Took, front, Fronts, kept_of};
 
@@ -47,7 +48,7 @@ fn bad_line() -> Found
 
 // N: one number behind the letter, which ends at this place.
 fn nodes_at(text: &[u8], at: usize) -> Found
-    ensures { (hops : List ℕ) (from : ℕ) → FoundAs (said_behind letter_n (given text) at) (given text) at result hops from }
+    ensures { (hops : List ℕ) (from : ℕ) → FoundAs (said_behind letter_n text.now at) text.now at result hops from }
 {
     let Field::Number {
         value: nodes,
@@ -67,7 +68,7 @@ fn nodes_at(text: &[u8], at: usize) -> Found
 
 // L: two numbers.
 fn link_at(text: &[u8], at: usize) -> Found
-    ensures { (hops : List ℕ) (place : ℕ) → FoundAs (said_behind letter_l (given text) at) (given text) at result hops place }
+    ensures { (hops : List ℕ) (place : ℕ) → FoundAs (said_behind letter_l text.now at) text.now at result hops place }
 {
     let Field::Number {
         value: from,
@@ -94,8 +95,8 @@ fn link_at(text: &[u8], at: usize) -> Found
 
 // P: a source, and a path that is copied into the hops from a place on.
 fn packet_at(text: &[u8], at: usize, hops: &mut [u16], from: usize) -> Found
-    ensures { FoundAs (said_behind letter_p (given text) at) (given text) at result (left hops) from
-        × (take from (left hops) ≡ take from (given hops)) }
+    ensures { FoundAs (said_behind letter_p text.now at) text.now at result hops.new from
+        × (take from hops.new ≡ take from hops.old) }
 {
     let Field::Number {
         value: source,
@@ -118,8 +119,8 @@ fn packet_at(text: &[u8], at: usize, hops: &mut [u16], from: usize) -> Found
 
 // The line that begins at a place. A packet's path is copied into the hops from a place on, and those before it stay.
 fn line_at(text: &[u8], at: usize, hops: &mut [u16], from: usize) -> Found
-    ensures { FoundAs (said_at (given text) at) (given text) at result (left hops) from
-        × (take from (left hops) ≡ take from (given hops)) }
+    ensures { FoundAs (said_at text.now at) text.now at result hops.new from
+        × (take from hops.new ≡ take from hops.old) }
 {
     let letter = letter_at(text, at);
     if letter == b'P' {
@@ -144,10 +145,10 @@ fn add_link(
     ends: &mut [u16],
 ) -> Verdict
     requires { Within job × (links_most ≤ length origins.old) × (links_most ≤ length ends.old) }
-    ensures { (ss ts hs : List ℕ) → Room (lists (given origins) (given ends) ss ts hs) → Took
-        (with_line line (so_far job (lists (given origins) (given ends) ss ts hs)) (link from to))
+    ensures { (ss ts hs : List ℕ) → Room (lists origins.old ends.old ss ts hs) → Took
+        (with_line line (so_far job (lists origins.old ends.old ss ts hs)) (link from to))
         (if_fine result (counted_of job (Line.Link from to)))
-        (lists (left origins) (left ends) ss ts hs) }
+        (lists origins.new ends.new ss ts hs) }
 {
     let links = wide(job.links);
     let packets = wide(job.packets);
@@ -181,10 +182,10 @@ fn add_packet(
     hops: &[u16],
 ) -> Verdict
     requires { Within job × Room (lists origins.now ends.now sources.old stops.old hops.now) }
-    ensures { (path : List ℕ) → PathStands count (given hops) job.hops path → Took
-        (with_line line (so_far job (lists_given origins ends sources stops hops)) (packet_line source path))
+    ensures { (path : List ℕ) → PathStands count hops.now job.hops path → Took
+        (with_line line (so_far job (lists origins.now ends.now sources.old stops.old hops.now)) (packet_line source path))
         (if_fine result (counted_of job (Line.Packet source count)))
-        (lists (given origins) (given ends) (left sources) (left stops) (given hops)) }
+        (lists origins.now ends.now sources.new stops.new hops.now) }
 {
     let links = wide(job.links);
     let packets = wide(job.packets);
@@ -224,10 +225,10 @@ fn add_line(
     hops: &[u16],
 ) -> Verdict
     requires { Within job × Room (lists origins.old ends.old sources.old stops.old hops.now) }
-    ensures { (said : Said) → LineAs said told (given hops) job.hops → Took
-        (with_line line (so_far job (lists_given origins ends sources stops hops)) said)
+    ensures { (said : Said) → LineAs said told hops.now job.hops → Took
+        (with_line line (so_far job (lists origins.old ends.old sources.old stops.old hops.now)) said)
         (if_fine result (counted_of job told))
-        (lists (left origins) (left ends) (left sources) (left stops) (given hops)) }
+        (lists origins.new ends.new sources.new stops.new hops.now) }
 {
     match told {
         Line::Nodes(_) => Verdict::Refused(Refusal::BadForm(line)),
@@ -277,8 +278,8 @@ fn add_lines(
     requires { Within begun × Room (lists origins.old ends.old sources.old stops.old hops.old)
         × (length text.now ≤ text_most) × (first.line ≤ first.at + 1) }
     ensures { Took
-        (with_rest first.line (so_far begun (lists_given origins ends sources stops hops)) (split line_feed (drop first.at (given text)))) result
-        (lists_left origins ends sources stops hops) }
+        (with_rest first.line (so_far begun (lists origins.old ends.old sources.old stops.old hops.old)) (split line_feed (drop first.at text.now))) result
+        (lists origins.new ends.new sources.new stops.new hops.new) }
 {
     let mut cursor = first;
     let mut job = begun;
@@ -333,7 +334,7 @@ fn read_lines(
     hops: &mut [u16],
 ) -> Reading
     requires { (length text.now ≤ text_most) × Room (lists origins.old ends.old sources.old stops.old hops.old) }
-    ensures { Took (all_lines (split line_feed (given text))) result (lists_left origins ends sources stops hops) }
+    ensures { Took (all_lines (split line_feed text.now)) result (lists origins.new ends.new sources.new stops.new hops.new) }
 {
     let found = line_at(text, 0, hops, 0);
     let told = found.line;
@@ -349,7 +350,7 @@ fn read_lines(
 
 // Zeros from a place on.
 fn clear(list: &mut [u16], from: usize)
-    ensures { left list ≡ front from (given list) }
+    ensures { list.new ≡ front from list.old }
 {
     let mut i = from;
     while i < list.len() {
@@ -367,7 +368,7 @@ fn clear_past(
     stops: &mut [u16],
     hops: &mut [u16],
 )
-    ensures { Fronts counts (lists_given origins ends sources stops hops) (lists_left origins ends sources stops hops) }
+    ensures { Fronts counts (lists origins.old ends.old sources.old stops.old hops.old) (lists origins.new ends.new sources.new stops.new hops.new) }
 {
     let links = wide(counts.links);
     let packets = wide(counts.packets);
@@ -403,8 +404,8 @@ fn fill(
     hops: &mut [u16],
 ) -> Reading
     requires { (length text.now ≤ text_most) × Room (lists origins.old ends.old sources.old stops.old hops.old) }
-    ensures { ReadAs (all_lines (split line_feed (given text))) result
-        (lists_given origins ends sources stops hops) (lists_left origins ends sources stops hops) }
+    ensures { ReadAs (all_lines (split line_feed text.now)) result
+        (lists origins.old ends.old sources.old stops.old hops.old) (lists origins.new ends.new sources.new stops.new hops.new) }
 {
     let answer = read_lines(text, origins, ends, sources, stops, hops);
     clear_past(kept(answer), origins, ends, sources, stops, hops);
@@ -430,8 +431,8 @@ pub fn read(
     stops: &mut [u16],
     hops: &mut [u16],
 ) -> Reading
-    ensures { ReadAs (read_in (given text) (lists_given origins ends sources stops hops)) result
-        (lists_given origins ends sources stops hops) (lists_left origins ends sources stops hops) }
+    ensures { ReadAs (read_in text.now (lists origins.old ends.old sources.old stops.old hops.old)) result
+        (lists origins.old ends.old sources.old stops.old hops.old) (lists origins.new ends.new sources.new stops.new hops.new) }
 {
     if text.len() > Job::TEXT {
         return Reading::Refused(Refusal::TextTooLong);

@@ -1,5 +1,7 @@
 // The sessions at the limits, on lists: what is asked, the refusal's number and place (0 0 where there is none), and the
 // starts added up. The output is held to the file stdout.
+#![tactic(auto)]
+
 ghost use Rattle.std.specs.Prelude.{◌≤◌};
 
 use job::Verdict;

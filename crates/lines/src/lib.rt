@@ -1,3 +1,5 @@
 // Text by lines, fields and numbers.
+#![tactic(auto)]
+
 pub mod reading;
 pub mod writing;

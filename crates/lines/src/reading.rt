@@ -1,7 +1,6 @@
 // Reading of text: the line cursor, the fields of a line, and the numbers that fields say. Each function answers at any place.
 ghost use Rattle.std.specs.Prelude.{◌≡◌, drop};
 ghost use Rattle.std.proofs.lemmas.List.Edits.{sets};
-ghost use Rattle.rules.specs.Handed.{given, left};
 ghost use Rattle.rules.specs.Bytes.{numbers_of, begins};
 ghost use Rattle.lines.specs.Cursor.{cursor_at, line_after, top_line};
 ghost use Rattle.lines.specs.Behind.{letter_of, ends_here, field_at, first_field, fields_behind, line_end, copied, leading};
@@ -61,7 +60,7 @@ pub enum Field {
 
 // Whether this byte stands at a place.
 pub fn begins_at(text: &[u8], at: usize, byte: u8) -> bool
-    ensures { result ≡ begins byte (drop at (given text)) }
+    ensures { result ≡ begins byte (drop at text.now) }
 {
     if at < text.len() {
         text[at] == byte
@@ -72,7 +71,7 @@ pub fn begins_at(text: &[u8], at: usize, byte: u8) -> bool
 
 // The byte at a place, if a tab stands behind it, else 0.
 pub fn letter_at(text: &[u8], at: usize) -> u8
-    ensures { result ≡ letter_of (drop at (given text)) }
+    ensures { result ≡ letter_of (drop at text.now) }
 {
     if at >= text.len() {
         return 0;
@@ -85,7 +84,7 @@ pub fn letter_at(text: &[u8], at: usize) -> u8
 
 // Whether a field ends at a place: at a tab, at a line feed or at the end of the text.
 fn ends_at(text: &[u8], at: usize) -> bool
-    ensures { result ≡ ends_here (drop at (given text)) }
+    ensures { result ≡ ends_here (drop at text.now) }
 {
     if at >= text.len() {
         return true;
@@ -97,7 +96,7 @@ fn ends_at(text: &[u8], at: usize) -> bool
 // The number of the field that begins at a place of a text, and where the field ends. The first digit is read by itself, so that the loop
 // has nothing to tell apart.
 fn number_at(text: &[u8], begin: usize) -> Field
-    ensures { result ≡ field_at (given text) begin }
+    ensures { result ≡ field_at text.now begin }
 {
     if begin >= text.len() {
         return Field::NoNumber;
@@ -139,7 +138,7 @@ fn number_at(text: &[u8], begin: usize) -> Field
 
 // The field behind one that ends at a place of a text, in the same line.
 pub fn field_behind(text: &[u8], at: usize) -> Field
-    ensures { result ≡ first_field (fields_behind (given text) at) at }
+    ensures { result ≡ first_field (fields_behind text.now at) at }
 {
     if at >= text.len() {
         return Field::NoField;
@@ -159,8 +158,8 @@ pub enum Copied {
 
 // Copies the numbers behind a place, up to a field that says none, into a list from a place on, as far as the list goes.
 pub fn copy_behind(text: &[u8], at: usize, list: &mut [u16], from: usize) -> Copied
-    ensures { (result ≡ copied (numbers_of (fields_behind (given text) at)) (line_end (given text) at))
-        × (left list ≡ sets (given list) from (leading (fields_behind (given text) at))) }
+    ensures { (result ≡ copied (numbers_of (fields_behind text.now at)) (line_end text.now at))
+        × (list.new ≡ sets list.old from (leading (fields_behind text.now at))) }
 {
     let mut place = at;
     let mut count: usize = 0;

@@ -1,9 +1,10 @@
 // Numbers that are marked, one bit each, in words of 64 that the caller lends: starts that are ruled out, nodes that are visited, steps in
 // which a link is entered.
+#![tactic(auto)]
+
 ghost use Rattle.std.specs.Prelude.{◌≡◌, ◌/◌, ◌%◌, ◌^◌, eqb, length, get_or, set};
 ghost use Rattle.std.specs.Int.Bits.{bit_or};
 ghost use Rattle.counting.specs.Count.{pick};
-ghost use Rattle.rules.specs.Handed.{given, left};
 ghost use Rattle.marks.specs.Marks.{digit, marked, unmarked, with_mark, wiped, with_start, with_starts, FirstUnmarked};
 
 // As many words as have the numbers below the bound, so that the answer is small however many words are lent.
@@ -13,7 +14,7 @@ const FULL: u64 = 18446744073709551615;
 
 // Takes every mark away.
 pub fn clear(words: &mut [u64])
-    ensures { left words ≡ unmarked (length (given words)) }
+    ensures { words.new ≡ unmarked (length words.old) }
 {
     let mut at = 0;
     while at < words.len() {
@@ -24,7 +25,7 @@ pub fn clear(words: &mut [u64])
 
 // Whether the number is marked. None beyond the words is.
 pub fn is_marked(words: &[u64], n: usize) -> bool
-    ensures { result ≡ marked (given words) n }
+    ensures { result ≡ marked words.now n }
 {
     n / 64 < words.len() && (words[n / 64] >> (n % 64)) % 2 == 1
 }
@@ -38,7 +39,7 @@ pub struct Word {
 
 // Takes the number's word in hand. One beyond the words has no mark.
 pub fn take_word(words: &[u64], n: usize) -> Word
-    ensures { (result.at ≡ n / 64) × (result.bits ≡ get_or (given words) (n / 64) 0) }
+    ensures { (result.at ≡ n / 64) × (result.bits ≡ get_or words.now (n / 64) 0) }
 {
     let there = n / 64;
     if there < words.len() {
@@ -52,7 +53,7 @@ pub fn take_word(words: &[u64], n: usize) -> Word
 
 // Puts the word in hand back. One beyond the words is dropped.
 pub fn put_word(word: Word, words: &mut [u64])
-    ensures { left words ≡ set (given words) word.at word.bits }
+    ensures { words.new ≡ set words.old word.at word.bits }
 {
     let place = word.at;
     if place < words.len() {
@@ -62,8 +63,8 @@ pub fn put_word(word: Word, words: &mut [u64])
 
 // The number's word in hand. Where it is another than the one in hand, that is put back first.
 pub fn change_word(word: Word, n: usize, words: &mut [u64]) -> Word
-    ensures at_value { (result.at ≡ n / 64) × (result.bits ≡ pick (eqb word.at (n / 64)) word.bits (get_or (given words) (n / 64) 0)) }
-    ensures put { left words ≡ pick (eqb word.at (n / 64)) (given words) (set (given words) word.at word.bits) }
+    ensures at_value { (result.at ≡ n / 64) × (result.bits ≡ pick (eqb word.at (n / 64)) word.bits (get_or words.old (n / 64) 0)) }
+    ensures put { words.new ≡ pick (eqb word.at (n / 64)) words.old (set words.old word.at word.bits) }
 {
     if word.at == n / 64 {
         return word;
@@ -91,14 +92,14 @@ pub fn mark_in(word: Word, n: usize) -> Word
 
 // Marks the number. One beyond the words is dropped.
 pub fn mark(words: &mut [u64], n: usize)
-    ensures { left words ≡ with_mark (given words) n }
+    ensures { words.new ≡ with_mark words.old n }
 {
     put_word(mark_in(take_word(words, n), n), words);
 }
 
 // Takes the number's mark away, with all others in its word.
 pub fn wipe(words: &mut [u64], n: usize)
-    ensures { left words ≡ wiped (given words) n }
+    ensures { words.new ≡ wiped words.old n }
 {
     if n / 64 < words.len() {
         words[n / 64] = 0;
@@ -107,7 +108,7 @@ pub fn wipe(words: &mut [u64], n: usize)
 
 // Marks the start from which the offset leads to the step, if there is one, in the word in hand, which is changed for its own.
 fn mark_start(word: Word, step: u16, offset: usize, words: &mut [u64]) -> Word
-    ensures { set (left words) result.at result.bits ≡ with_start offset step (set (given words) word.at word.bits) }
+    ensures { set words.new result.at result.bits ≡ with_start offset step (set words.old word.at word.bits) }
 {
     let at = step as usize;
     if at < offset {
@@ -119,7 +120,7 @@ fn mark_start(word: Word, step: u16, offset: usize, words: &mut [u64]) -> Word
 
 // Marks the start of each of the steps.
 pub fn mark_starts(steps: &[u16], offset: usize, words: &mut [u64])
-    ensures { left words ≡ with_starts offset (given steps) (given words) }
+    ensures { words.new ≡ with_starts offset steps.now words.old }
 {
     let mut word = take_word(words, 0);
     let mut i = 0;
@@ -132,7 +133,7 @@ pub fn mark_starts(steps: &[u16], offset: usize, words: &mut [u64])
 
 // The first number without a mark: the lowest bit that is not set in the first word that is not full.
 pub fn first_unmarked(words: &[u64]) -> usize
-    ensures { FirstUnmarked (given words) result }
+    ensures { FirstUnmarked words.now result }
 {
     let mut at = 0;
     'words: loop {

@@ -1,4 +1,6 @@
 // The program `plan`: a job on standard input, and on standard output its plan, or the line that tells why there is none.
+#![tactic(auto)]
+
 use answer::ROOM;
 use input::read_all;
 use job::Job;

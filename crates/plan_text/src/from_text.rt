@@ -1,6 +1,5 @@
 // From a job's text to its plan's text: the reader, the planner and the writer in a row, and the job's tables are looked at once.
 ghost use Rattle.std.specs.Prelude.{length};
-ghost use Rattle.rules.specs.Handed.{given, left};
 ghost use Rattle.rules.specs.Answers.{answered};
 ghost use Rattle.plan_text.specs.Told.{WrittenAs};
 
@@ -11,7 +10,7 @@ use planner::from_text::read_and_plan;
 
 // The plan's bytes for a job's bytes, in the lent room.
 pub fn answer(text: &[u8], room: &mut [u8]) -> Written
-    ensures { WrittenAs (answered (given text) (length (given room))) result (given room) (left room) }
+    ensures { WrittenAs (answered text.now (length room.old)) result room.old room.new }
 {
     let mut origins = [0; Job::LINKS];
     let mut ends = [0; Job::LINKS];

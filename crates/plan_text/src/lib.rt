@@ -1,8 +1,9 @@
 // The text of a plan: a job as lists and starts for its packets, written into bytes that the caller lends, also
 // straight from a job's text (from_text.rt), and read back (reading.rt).
+#![tactic(auto)]
+
 ghost use Rattle.std.specs.Prelude.{◌≡◌, List, ℕ, ◌+◌, ◌*◌, ◌≤◌, ◌<◌, max, leb, length, get_or};
 ghost use Rattle.counting.specs.Count.{occurs, max_of};
-ghost use Rattle.rules.specs.Handed.{given, left};
 ghost use Rattle.rules.specs.Sizes.{links_most, packets_most};
 ghost use Rattle.rules.specs.Network.{Job as RuledJob, paths};
 ghost use Rattle.rules.specs.Outcome.{fine};
@@ -10,7 +11,7 @@ ghost use Rattle.rules.specs.Travel.{one_step};
 ghost use Rattle.rules.specs.Counts.{routing_time};
 ghost use Rattle.rules.specs.PlanText.{packet_lines, text_of_plan};
 ghost use Rattle.rules.specs.Answers.{started_verdict, written};
-ghost use Rattle.job.specs.Lists.{job_in};
+ghost use Rattle.job.specs.Lists.{job_of};
 ghost use Rattle.lines.specs.Put.{Put, longest_line};
 ghost use Rattle.plan_text.specs.HopsInLists.{Rising, hop_count, StopsOf, Linked, most_often, Writable, ListsOf};
 ghost use Rattle.plan_text.specs.LastLine.{CountsOf};
@@ -31,7 +32,7 @@ fn greater(a: u32, b: u32) -> u32
 // How many hops packet k has: those from the stop before its own.
 fn hop_count(stops: &[u16], k: usize) -> Hop
     requires { Rising stops.now × (k < length stops.now) }
-    ensures { result.0 ≡ hop_count (given stops) k }
+    ensures { result.0 ≡ hop_count stops.now k }
 {
     if k == 0 {
         Hop(stops[0])
@@ -43,7 +44,7 @@ fn hop_count(stops: &[u16], k: usize) -> Hop
 // The end of packet k: the step after its last hop.
 fn end(stops: &[u16], starts: &[u16], k: usize) -> Step
     requires { Rising stops.now × (k < length stops.now) × (k < length starts.now) }
-    ensures { result.0 ≡ get_or (given starts) k 0 + hop_count (given stops) k }
+    ensures { result.0 ≡ get_or starts.now k 0 + hop_count stops.now k }
 {
     Step::of(starts[k], hop_count(stops, k))
 }
@@ -51,7 +52,7 @@ fn end(stops: &[u16], starts: &[u16], k: usize) -> Step
 // The routing time: the greatest end.
 fn routing_time(stops: &[u16], starts: &[u16]) -> u32
     requires { Rising stops.now × (length starts.now ≡ length stops.now) }
-    ensures { (paths : List (List ℕ)) → StopsOf paths (given stops) → result ≡ routing_time one_step (given starts) paths }
+    ensures { (paths : List (List ℕ)) → StopsOf paths stops.now → result ≡ routing_time one_step starts.now paths }
 {
     let mut time = 0;
     let mut k = 0;
@@ -65,7 +66,7 @@ fn routing_time(stops: &[u16], starts: &[u16]) -> u32
 // D: the hops of the longest path.
 fn dilation(stops: &[u16]) -> u32
     requires { Rising stops.now }
-    ensures { (paths : List (List ℕ)) → StopsOf paths (given stops) → result ≡ max_of (λ p. length p) paths }
+    ensures { (paths : List (List ℕ)) → StopsOf paths stops.now → result ≡ max_of (λ p. length p) paths }
 {
     let mut most = 0;
     let mut k = 0;
@@ -79,7 +80,7 @@ fn dilation(stops: &[u16]) -> u32
 // How often each link is among the hops.
 fn tally(hops: &[u16]) -> [u16; Job::LINKS]
     requires { Linked hops.now }
-    ensures { (link : ℕ) → link < links_most → get_or result link 0 ≡ occurs link (given hops) }
+    ensures { (link : ℕ) → link < links_most → get_or result link 0 ≡ occurs link hops.now }
 {
     let mut times = [0; Job::LINKS];
     let mut i = 0;
@@ -94,7 +95,7 @@ fn tally(hops: &[u16]) -> [u16; Job::LINKS]
 // C: no path has a link twice, so it is how often the link met most often is among the hops.
 fn congestion(links: usize, hops: &[u16]) -> u32
     requires { Linked hops.now × (links ≤ links_most) }
-    ensures { result ≡ most_often links (given hops) }
+    ensures { result ≡ most_often links hops.now }
 {
     let times = tally(hops);
     let mut most = 0;
@@ -109,7 +110,7 @@ fn congestion(links: usize, hops: &[u16]) -> u32
 // Writes a line for each packet.
 fn packet_lines(room: &mut [u8], stops: &[u16], starts: &[u16]) -> usize
     requires { Rising stops.now × (length starts.now ≡ length stops.now) × (length stops.now ≤ packets_most) }
-    ensures by_index { (paths : List (List ℕ)) → StopsOf paths (given stops) → Put (given room) 0 (packet_lines one_step 0 (given starts) paths) (left room) result }
+    ensures by_index { (paths : List (List ℕ)) → StopsOf paths stops.now → Put room.old 0 (packet_lines one_step 0 starts.now paths) room.new result }
     ensures near { result ≤ longest_line 3 * packets_most }
 {
     let mut at = 0;
@@ -134,7 +135,7 @@ impl Counts {
     // Those of the packets with these starts.
     fn of(links: usize, stops: &[u16], hops: &[u16], starts: &[u16]) -> Counts
         requires { Writable links stops.now hops.now starts.now }
-        ensures { (j : RuledJob) → ListsOf j links (given stops) (given hops) → CountsOf j (given starts) result }
+        ensures { (j : RuledJob) → ListsOf j links stops.now hops.now → CountsOf j starts.now result }
     {
         let time = routing_time(stops, starts);
         let c = congestion(links, hops);
@@ -146,8 +147,8 @@ impl Counts {
 // Writes the plan's text, as far as the room goes, and gives its length.
 fn text(room: &mut [u8], stops: &[u16], starts: &[u16], counts: Counts) -> usize
     requires { Rising stops.now × (length starts.now ≡ length stops.now) × (length stops.now ≤ packets_most) }
-    ensures put { (j : RuledJob) → StopsOf (paths j) (given stops) → CountsOf j (given starts) counts
-        → Put (given room) 0 (text_of_plan j (given starts)) (left room) result }
+    ensures put { (j : RuledJob) → StopsOf (paths j) stops.now → CountsOf j starts.now counts
+        → Put room.old 0 (text_of_plan j starts.now) room.new result }
     ensures near { result ≤ longest_line 3 * packets_most + longest_line 3 }
 {
     let at = packet_lines(room, stops, starts);
@@ -157,8 +158,8 @@ fn text(room: &mut [u8], stops: &[u16], starts: &[u16], counts: Counts) -> usize
 // Whether the plan's text has no more than so many bytes. For fewer than the longest plan may have, it goes into a room of one byte, for its length.
 fn fits_in(bytes: usize, stops: &[u16], starts: &[u16], counts: Counts) -> bool
     requires { Rising stops.now × (length starts.now ≡ length stops.now) × (length stops.now ≤ packets_most) }
-    ensures { (j : RuledJob) → started_verdict j (given starts) ≡ fine → StopsOf (paths j) (given stops) → CountsOf j (given starts) counts
-        → result ≡ leb (length (text_of_plan j (given starts))) bytes }
+    ensures { (j : RuledJob) → started_verdict j starts.now ≡ fine → StopsOf (paths j) stops.now → CountsOf j starts.now counts
+        → result ≡ leb (length (text_of_plan j starts.now)) bytes }
 {
     if bytes >= Job::PLAN {
         return true;
@@ -183,8 +184,8 @@ pub(crate) fn write_accepted(
     room: &mut [u8],
 ) -> Written
     requires { Writable links stops.now hops.now starts.now }
-    ensures { (j : RuledJob) → ListsOf j links (given stops) (given hops) → started_verdict j (given starts) ≡ fine
-        → WrittenAs (written j (given starts) (length (given room))) result (given room) (left room) }
+    ensures { (j : RuledJob) → ListsOf j links stops.now hops.now → started_verdict j starts.now ≡ fine
+        → WrittenAs (written j starts.now (length room.now)) result room.now room.new }
 {
     let counts = Counts::of(links, stops, hops, starts);
     if !fits_in(room.len(), stops, starts, counts) {
@@ -204,7 +205,7 @@ pub fn write(
     starts: &[u16],
     room: &mut [u8],
 ) -> Written
-    ensures { WrittenAs (written (job_in nodes origins ends sources stops hops) (given starts) (length (given room))) result (given room) (left room) }
+    ensures { WrittenAs (written (job_of nodes origins.now ends.now sources.now stops.now hops.now) starts.now (length room.old)) result room.old room.new }
 {
     let verdict = job::started(nodes, origins, ends, sources, stops, hops, starts);
     if let Verdict::Refused(refusal) = verdict {

@@ -1,7 +1,6 @@
 // The text of a plan, read back for a job as lists, by a reader that holds the bytes and a place in them. The work is done by
 // functions over plain bytes and a line cursor; those of the reader take it apart and call one.
 ghost use Rattle.std.specs.Prelude.{◌≡◌, List, ◌++◌, ℕ, ◌≤◌, ◌<◌, length, drop, set};
-ghost use Rattle.rules.specs.Handed.{given, left};
 ghost use Rattle.rules.specs.Sizes.{text_most, packets_most};
 ghost use Rattle.rules.specs.Bytes.{line_feed};
 ghost use Rattle.rules.specs.Travel.{one_step};
@@ -9,7 +8,7 @@ ghost use Rattle.rules.specs.Outcome.{fine, onward};
 ghost use Rattle.rules.specs.Network.{Job as RuledJob};
 ghost use Rattle.rules.specs.PlanBack.{rows_verdict, totals_verdict, followed as followed_starts};
 ghost use Rattle.rules.specs.Answers.{plan_read_in};
-ghost use Rattle.job.specs.Lists.{job_in};
+ghost use Rattle.job.specs.Lists.{job_of};
 ghost use Rattle.job.specs.Told.{verdict_of};
 ghost use Rattle.lines.specs.Cursor.{top_line};
 ghost use Rattle.plan_text.specs.HopsInLists.{Rising, StopsOf, OfAJob, Writable, ListsOf};
@@ -39,7 +38,7 @@ enum ThreeLine {
 // not the 0 that tells that there is none.
 fn line_at(text: &[u8], place: Lines, letter: u8) -> ThreeLine
     requires { line_feed < letter }
-    ensures { result ≡ line_at (given text) place letter }
+    ensures { result ≡ line_at text.now place letter }
 {
     let at = place.at;
     if letter_at(text, at) != letter {
@@ -82,7 +81,7 @@ fn line_at(text: &[u8], place: Lines, letter: u8) -> ThreeLine
 
 // A number stored, if the list has the place.
 fn store(list: &mut [u16], k: usize, value: u16)
-    ensures { left list ≡ set (given list) k value }
+    ensures { list.new ≡ set list.old k value }
 {
     if k < list.len() {
         list[k] = value;
@@ -98,9 +97,9 @@ enum Rows {
 
 // The S lines at a place; each start and end is stored, as far as the lists go.
 fn rows_at(plan: &[u8], place: Lines, starts: &mut [u16], ends: &mut [u16]) -> Rows
-    ensures { (result ≡ rows_at (given plan) place)
-        × (left starts ≡ starts_stored (given starts) (rows_found (given plan) place))
-        × (left ends ≡ ends_stored (given ends) (rows_found (given plan) place)) }
+    ensures { (result ≡ rows_at plan.now place)
+        × (starts.new ≡ starts_stored starts.old (rows_found plan.now place))
+        × (ends.new ≡ ends_stored ends.old (rows_found plan.now place)) }
 {
     let mut here = place;
     let mut k: usize = 0;
@@ -141,7 +140,7 @@ enum Totals {
 
 // The T line at a place, and the end of the plan.
 fn totals_at(plan: &[u8], place: Lines) -> Totals
-    ensures { result ≡ totals_at (given plan) place }
+    ensures { result ≡ totals_at plan.now place }
 {
     let line = place.line;
     let last = line_at(plan, place, b'T');
@@ -188,8 +187,8 @@ impl<'a> PlanReader<'a> {
     // The S lines from here on; each start and end is stored, as far as the lists go.
     fn rows(self, starts: &mut [u16], ends: &mut [u16]) -> Rows
         ensures { (result ≡ rows_at self.entry.bytes.now self.entry.place)
-            × (left starts ≡ starts_stored (given starts) (rows_found self.entry.bytes.now self.entry.place))
-            × (left ends ≡ ends_stored (given ends) (rows_found self.entry.bytes.now self.entry.place)) }
+            × (starts.new ≡ starts_stored starts.old (rows_found self.entry.bytes.now self.entry.place))
+            × (ends.new ≡ ends_stored ends.old (rows_found self.entry.bytes.now self.entry.place)) }
     {
         rows_at(self.bytes, self.place, starts, ends)
     }
@@ -204,16 +203,16 @@ impl<'a> PlanReader<'a> {
 
 // The S lines of a plan, from its first line on.
 fn plan_rows(plan: &[u8], starts: &mut [u16], ends: &mut [u16]) -> Rows
-    ensures { (result ≡ rows_at (given plan) top_line)
-        × (left starts ≡ starts_stored (given starts) (rows_found (given plan) top_line))
-        × (left ends ≡ ends_stored (given ends) (rows_found (given plan) top_line)) }
+    ensures { (result ≡ rows_at plan.now top_line)
+        × (starts.new ≡ starts_stored starts.old (rows_found plan.now top_line))
+        × (ends.new ≡ ends_stored ends.old (rows_found plan.now top_line)) }
 {
     PlanReader::top(plan).rows(starts, ends)
 }
 
 // The T line of a plan, at the place behind its S lines, and the plan's end.
 fn plan_totals(plan: &[u8], place: Lines) -> Totals
-    ensures { result ≡ totals_at (given plan) place }
+    ensures { result ≡ totals_at plan.now place }
 {
     PlanReader::top(plan).moved(place).totals()
 }
@@ -222,8 +221,8 @@ fn plan_totals(plan: &[u8], place: Lines) -> Totals
 fn rows_verdict(stops: &[u16], starts: &[u16], ends: &[u16]) -> Verdict
     requires { Rising stops.now × (length starts.now ≡ length stops.now) × (length ends.now ≡ length stops.now)
         × (length stops.now ≤ packets_most) }
-    ensures { (paths : List (List ℕ)) → StopsOf paths (given stops)
-        → verdict_of result ≡ rows_verdict one_step 1 (rows_in (given starts) (given ends)) paths }
+    ensures { (paths : List (List ℕ)) → StopsOf paths stops.now
+        → verdict_of result ≡ rows_verdict one_step 1 (rows_in starts.now ends.now) paths }
 {
     let mut k = 0;
     while k < stops.len() {
@@ -249,8 +248,8 @@ fn totals_verdict(
     line: u32,
 ) -> Verdict
     requires { Writable links stops.now hops.now starts.now }
-    ensures { (j : RuledJob) → ListsOf j links (given stops) (given hops)
-        → verdict_of result ≡ totals_verdict line j (given starts) (three_told said) }
+    ensures { (j : RuledJob) → ListsOf j links stops.now hops.now
+        → verdict_of result ≡ totals_verdict line j starts.now (three_told said) }
 {
     if said.first as u32 != routing_time(stops, starts) {
         return Verdict::Refused(Refusal::NotFollowing(line));
@@ -267,7 +266,7 @@ fn totals_verdict(
 // Copies a list into the first places of another.
 fn copy(list: &[u16], to: &mut [u16])
     requires { length list.now ≤ length to.old }
-    ensures { left to ≡ given list ++ drop (length (given list)) (given to) }
+    ensures { to.new ≡ list.now ++ drop (length list.now) to.old }
 {
     let mut k = 0;
     while k < list.len() {
@@ -286,8 +285,8 @@ fn followed(
     said: Three,
 ) -> Verdict
     requires { Writable links stops.now hops.now starts.now × (length ends.now ≡ length stops.now) }
-    ensures { (j : RuledJob) → ListsOf j links (given stops) (given hops)
-        → verdict_of result ≡ onward (followed_starts j (rows_in (given starts) (given ends)) (three_told said)) (λ starts. fine) }
+    ensures { (j : RuledJob) → ListsOf j links stops.now hops.now
+        → verdict_of result ≡ onward (followed_starts j (rows_in starts.now ends.now) (three_told said)) (λ starts. fine) }
 {
     let verdict = rows_verdict(stops, starts, ends);
     let Verdict::Fine = verdict else {
@@ -306,7 +305,7 @@ fn find_starts(
     starts: &mut [u16],
 ) -> Verdict
     requires { OfAJob links stops.now hops.now × (length plan.now ≤ text_most) × (length starts.old ≡ packets_most) }
-    ensures { (j : RuledJob) → ListsOf j links (given stops) (given hops) → FoundAs (lines_say j (given plan)) result (left starts) }
+    ensures { (j : RuledJob) → ListsOf j links stops.now hops.now → FoundAs (lines_say j plan.now) result starts.new }
 {
     let mut ends = [0; Job::PACKETS];
     let rows = plan_rows(plan, starts, &mut ends);
@@ -343,8 +342,8 @@ pub fn read(
     plan: &[u8],
     starts: &mut [u16],
 ) -> Verdict
-    ensures { ReadBackAs (plan_read_in (job_in nodes origins ends sources stops hops) (given plan) (length (given starts))) result
-        (given starts) (left starts) }
+    ensures { ReadBackAs (plan_read_in (job_of nodes origins.now ends.now sources.now stops.now hops.now) plan.now (length starts.old)) result
+        starts.old starts.new }
 {
     let verdict = job::tables(nodes, origins, ends, sources, stops, hops);
     let Verdict::Fine = verdict else {

@@ -2,7 +2,6 @@
 // that stand goes along its own links, and meets nobody else.
 ghost use Rattle.std.specs.Prelude.{◌≡◌, ℕ, ◌+◌, ◌*◌, ◌≤◌, ◌<◌, length, get_or};
 ghost use Rattle.counting.specs.Count.{occurs};
-ghost use Rattle.rules.specs.Handed.{given, left};
 ghost use Rattle.rules.specs.Travel.{one_step};
 ghost use Rattle.rules.specs.Claims.{place};
 ghost use Rattle.marks.specs.Marks.{numbers_most};
@@ -15,8 +14,8 @@ use job::{Hop, Step, wide};
 // Adds to each link's load how often it stands among the hops.
 fn count(hops: &[u16], loads: &mut [u16])
     requires { Below hops.now (length loads.old) × (total loads.old + length hops.now ≤ widest) }
-    ensures by_index { (link : ℕ) → get_or (left loads) link 0 ≡ get_or (given loads) link 0 + occurs link (given hops) }
-    ensures sum { total (left loads) ≡ total (given loads) + length (given hops) }
+    ensures by_index { (link : ℕ) → get_or loads.new link 0 ≡ get_or loads.old link 0 + occurs link hops.now }
+    ensures sum { total loads.new ≡ total loads.old + length hops.now }
 {
     let mut i = 0;
     while i < hops.len() {
@@ -32,9 +31,9 @@ fn count(hops: &[u16], loads: &mut [u16])
 fn open(places: usize, firsts: &mut [u16], nexts: &mut [u16]) -> usize
     requires { (total nexts.old ≡ places) × (places ≤ widest) × (length firsts.old ≡ length nexts.old)
         × ((link : ℕ) → get_or firsts.old link 0 ≡ 0) }
-    ensures rooms { Rooms (λ link. get_or (given nexts) link 0) (left firsts) places }
-    ensures empty { (link : ℕ) → get_or (left nexts) link 0 ≡ get_or (left firsts) link 0 }
-    ensures links { (result ≤ length (given nexts)) × ((link : ℕ) → result ≤ link → get_or (given nexts) link 0 ≡ 0) }
+    ensures rooms { Rooms (λ link. get_or nexts.old link 0) firsts.new places }
+    ensures empty { (link : ℕ) → get_or nexts.new link 0 ≡ get_or firsts.new link 0 }
+    ensures links { (result ≤ length nexts.old) × ((link : ℕ) → result ≤ link → get_or nexts.old link 0 ≡ 0) }
 {
     let mut link = 0;
     let mut place: u16 = 0;
@@ -53,9 +52,9 @@ fn open(places: usize, firsts: &mut [u16], nexts: &mut [u16]) -> usize
 pub(crate) fn make_room(hops: &[u16], firsts: &mut [u16], nexts: &mut [u16]) -> usize
     requires { Below hops.now (length nexts.old) × (length hops.now ≤ widest) × (length firsts.old ≡ length nexts.old)
         × ((link : ℕ) → get_or firsts.old link 0 ≡ 0) × ((link : ℕ) → get_or nexts.old link 0 ≡ 0) }
-    ensures rooms { Rooms (λ link. occurs link (given hops)) (left firsts) (length (given hops)) }
-    ensures empty { (link : ℕ) → get_or (left nexts) link 0 ≡ get_or (left firsts) link 0 }
-    ensures links { Below (given hops) result × (result ≤ length (given nexts)) }
+    ensures rooms { Rooms (λ link. occurs link hops.now) firsts.new (length hops.now) }
+    ensures empty { (link : ℕ) → get_or nexts.new link 0 ≡ get_or firsts.new link 0 }
+    ensures links { Below hops.now result × (result ≤ length nexts.old) }
 {
     count(hops, &mut nexts[..]);
     open(hops.len(), firsts, nexts)
@@ -72,7 +71,7 @@ fn offset_after(offset: u16, link: u16) -> u16
 // Marks each start with which a packet on this path would enter a link in a step in which it is entered.
 fn rule_out(path: &[u16], firsts: &[u16], nexts: &[u16], steps: &[u16], words: &mut [u64])
     requires { Searchable path.now firsts.now nexts.now (length steps.now) }
-    ensures { MarksAdded (given path) (given firsts) (given nexts) (given steps) (given words) (left words) }
+    ensures { MarksAdded path.now firsts.now nexts.now steps.now words.old words.new }
 {
     let mut hop = 0;
     let mut offset: u16 = 0;
@@ -96,7 +95,7 @@ pub(crate) fn search(
     words: &mut [u64],
 ) -> usize
     requires { Searchable path.now firsts.now nexts.now (length steps.now) × (64 * length words.old ≤ numbers_most) }
-    ensures { FoundAmong (given path) (given firsts) (given nexts) (given steps) (length (given words)) result }
+    ensures { FoundAmong path.now firsts.now nexts.now steps.now (length words.old) result }
 {
     marks::clear(words);
     rule_out(path, firsts, nexts, steps, words);
@@ -106,9 +105,9 @@ pub(crate) fn search(
 // Enters the links of a path, the first of them in the step of the start.
 pub(crate) fn enter(path: &[u16], start: u16, nexts: &mut [u16], steps: &mut [u16])
     requires { Enterable path.now start nexts.old (length steps.old) }
-    ensures by_index { (link : ℕ) → get_or (left nexts) link 0 ≡ get_or (given nexts) link 0 + occurs link (given path) }
-    ensures entries { EntriesAdded (given path) (claim_steps (place start (path_claims (given path)))) (given nexts) (given steps)
-        (left nexts) (left steps) }
+    ensures by_index { (link : ℕ) → get_or nexts.new link 0 ≡ get_or nexts.now link 0 + occurs link path.now }
+    ensures entries { EntriesAdded path.now (claim_steps (place start (path_claims path.now))) nexts.now steps.now
+        nexts.new steps.new }
 {
     let mut hop = 0;
     let mut offset: u16 = 0;

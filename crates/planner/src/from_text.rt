@@ -1,6 +1,5 @@
 // From a job's text to its greedy starts. What the reader accepts is a job, so its tables are not looked at again.
-ghost use Rattle.rules.specs.Handed.{given, left};
-ghost use Rattle.job_text.specs.Told.{lists_given, lists_left, read_in};
+ghost use Rattle.job_text.specs.Told.{lists, read_in};
 ghost use Rattle.planner.specs.Told.{ReadAndPlannedAs};
 
 use crate::fill;
@@ -17,8 +16,8 @@ pub fn read_and_plan(
     hops: &mut [u16],
     starts: &mut [u16; Job::PACKETS],
 ) -> Reading
-    ensures { ReadAndPlannedAs (read_in (given text) (lists_given origins ends sources stops hops)) result
-        (lists_given origins ends sources stops hops) (lists_left origins ends sources stops hops) (given starts) (left starts) }
+    ensures { ReadAndPlannedAs (read_in text.now (lists origins.old ends.old sources.old stops.old hops.old)) result
+        (lists origins.old ends.old sources.old stops.old hops.old) (lists origins.new ends.new sources.new stops.new hops.new) starts.old starts.new }
 {
     let reading = job_text::read(text, origins, ends, sources, stops, hops);
     let Reading::Read(job) = reading else {

@@ -1,7 +1,8 @@
 // Start steps: the greedy plan of a job, the check of starts made elsewhere, and the lead of one packet over another.
+#![tactic(auto)]
+
 ghost use Rattle.std.specs.Prelude.{◌≡◌, [], ◌++◌, ℕ, ◌+◌, ◌*◌, ◌≤◌, ◌<◌, length, get_or, drop};
 ghost use Rattle.counting.specs.Count.{occurs};
-ghost use Rattle.rules.specs.Handed.{given, left};
 ghost use Rattle.rules.specs.Sizes.{packets_most, hops_most, start_most};
 ghost use Rattle.rules.specs.Network.{paths_from};
 ghost use Rattle.rules.specs.Outcome.{is};
@@ -10,7 +11,7 @@ ghost use Rattle.rules.specs.Claims.{place, takes};
 ghost use Rattle.rules.specs.Check.{holder as holder_of, clash_with, clash_after};
 ghost use Rattle.rules.specs.Lead.{entry_at, lead_of};
 ghost use Rattle.rules.specs.Answers.{planned, checked, led};
-ghost use Rattle.job.specs.Lists.{job_in};
+ghost use Rattle.job.specs.Lists.{job_of};
 ghost use Rattle.planner.specs.Told.{entered_of, held_by, checked_of, clear_or, led_of, PlannedAs, Near};
 ghost use Rattle.planner.specs.PacketsInLists.{SimplePaths, InTime, OnPath, path_claims, begin_from, path_at, packet_enters, packets, before, greedy_starts};
 ghost use Rattle.planner.specs.Entries.{widest, OnLinks, Enterable, EntriesBefore};
@@ -35,7 +36,7 @@ const STEP_WORDS: usize = 65535 / 64 + 1;
 // Where packet k's path begins in the hops.
 fn begin(stops: &[u16], k: usize) -> usize
     requires { k ≤ length stops.now }
-    ensures { result ≡ begin_from 0 (given stops) k }
+    ensures { result ≡ begin_from 0 stops.now k }
 {
     if k == 0 { 0 } else { wide(stops[k - 1]) }
 }
@@ -43,7 +44,7 @@ fn begin(stops: &[u16], k: usize) -> usize
 // The links of packet k's path.
 fn path<'a>(stops: &[u16], hops: &'a [u16], k: usize) -> &'a [u16]
     requires { SimplePaths stops.now hops.now × (k < length stops.now) }
-    ensures { result.now ≡ path_at (given stops) (given hops) k }
+    ensures { result.now ≡ path_at stops.now hops.now k }
 {
     let from = begin(stops, k);
     let to = wide(stops[k]);
@@ -52,7 +53,7 @@ fn path<'a>(stops: &[u16], hops: &'a [u16], k: usize) -> &'a [u16]
 
 // Whether a packet with this path and start enters the link in the step.
 pub fn enters(path: &[u16], start: u16, link: u16, step: Step) -> bool
-    ensures { result ≡ takes (place start (path_claims (given path))) link step.0 }
+    ensures { result ≡ takes (place start (path_claims path.now)) link step.0 }
 {
     let at = step.0;
     if at < start as u32 {
@@ -72,7 +73,7 @@ fn packet_enters(
     step: Step,
 ) -> bool
     requires { SimplePaths stops.now hops.now × (j < length stops.now) × (j < length starts.now) }
-    ensures { result ≡ packet_enters (given stops) (given hops) (given starts) j link step.0 }
+    ensures { result ≡ packet_enters stops.now hops.now starts.now j link step.0 }
 {
     enters(path(stops, hops, j), starts[j], link, step)
 }
@@ -89,7 +90,7 @@ fn start_each(
 )
     requires { SimplePaths stops.now hops.now × (length stops.now ≤ length starts.old)
         × EntriesBefore stops.now hops.now starts.old 0 firsts.now nexts.old steps.old × (hops_most < 64 * length words.old) }
-    ensures { left starts ≡ greedy_starts (given stops) (given hops) ++ drop (length (given stops)) (given starts) }
+    ensures { starts.new ≡ greedy_starts stops.now hops.now ++ drop (length stops.now) starts.old }
 {
     let mut k = 0;
     while k < stops.len() {
@@ -112,7 +113,7 @@ fn start_each(
 // Writes the greedy starts, packet by packet, over the first places.
 pub(crate) fn fill(stops: &[u16], hops: &[u16], starts: &mut [u16])
     requires { SimplePaths stops.now hops.now × (length stops.now ≤ length starts.old) }
-    ensures { left starts ≡ greedy_starts (given stops) (given hops) ++ drop (length (given stops)) (given starts) }
+    ensures { starts.new ≡ greedy_starts stops.now hops.now ++ drop (length stops.now) starts.old }
 {
     let mut firsts = [0u16; Job::LINKS];
     let mut nexts = [0u16; Job::LINKS];
@@ -139,7 +140,7 @@ enum Entered {
 
 fn entry(stops: &[u16], hops: &[u16], starts: &[u16], k: u16, link: u16) -> Entered
     requires { SimplePaths stops.now hops.now × (length starts.now ≡ length stops.now) }
-    ensures result_value { entered_of result ≡ entry_at one_step (given starts) (paths_from 0 (given stops) (given hops)) link k }
+    ensures result_value { entered_of result ≡ entry_at one_step starts.now (paths_from 0 stops.now hops.now) link k }
     ensures near { Near result }
 {
     let packet = wide(k);
@@ -193,7 +194,7 @@ enum Held {
 // The lowest packet listed before packet k that enters the link in the step, if one does.
 fn holder(stops: &[u16], hops: &[u16], starts: &[u16], k: usize, link: u16, step: Step) -> Held
     requires { SimplePaths stops.now hops.now × (k ≤ length stops.now) × (k ≤ length starts.now) × (k ≤ packets_most) }
-    ensures { held_by result ≡ holder_of 0 (before (given stops) (given hops) (given starts) k) link step.0 }
+    ensures { held_by result ≡ holder_of 0 (before stops.now hops.now starts.now k) link step.0 }
 {
     let mut j = 0;
     while j < k {
@@ -208,7 +209,7 @@ fn holder(stops: &[u16], hops: &[u16], starts: &[u16], k: usize, link: u16, step
 // The clash of packet k on the link in the step, where one listed before it has it.
 fn clash_at(stops: &[u16], hops: &[u16], starts: &[u16], k: usize, link: u16, step: Step) -> Checked
     requires { SimplePaths stops.now hops.now × (k ≤ length stops.now) × (k ≤ length starts.now) × (k ≤ packets_most) }
-    ensures { result ≡ clear_or (clash_with k link step.0 (holder_of 0 (before (given stops) (given hops) (given starts) k) link step.0)) }
+    ensures { result ≡ clear_or (clash_with k link step.0 (holder_of 0 (before stops.now hops.now starts.now k) link step.0)) }
 {
     let held = holder(stops, hops, starts, k, link, step);
     let Held::By(earlier) = held else {
@@ -225,7 +226,7 @@ fn clash_at(stops: &[u16], hops: &[u16], starts: &[u16], k: usize, link: u16, st
 // The packet whose path has the hop.
 fn packet_of(stops: &[u16], hop: usize) -> usize
     requires { hop < begin_from 0 stops.now (length stops.now) }
-    ensures { OnPath (given stops) hop result }
+    ensures { OnPath stops.now hop result }
 {
     let mut k = 0;
     while wide(stops[k]) <= hop {
@@ -238,9 +239,9 @@ fn packet_of(stops: &[u16], hop: usize) -> usize
 fn enter_each(stops: &[u16], hops: &[u16], starts: &[u16], nexts: &mut [u16], steps: &mut [u16])
     requires { SimplePaths stops.now hops.now × (length starts.now ≡ length stops.now) × InTime starts.now
         × Enterable hops.now start_most nexts.old (length steps.old) }
-    ensures by_index { (link : ℕ) → get_or (left nexts) link 0 ≡ get_or (given nexts) link 0 + occurs link (given hops) }
-    ensures entries { EntriesAdded (given hops) (all_steps (packets (given stops) (given hops) (given starts)))
-        (given nexts) (given steps) (left nexts) (left steps) }
+    ensures by_index { (link : ℕ) → get_or nexts.new link 0 ≡ get_or nexts.old link 0 + occurs link hops.now }
+    ensures entries { EntriesAdded hops.now (all_steps (packets stops.now hops.now starts.now))
+        nexts.old steps.old nexts.new steps.new }
 {
     let mut packet = 0;
     while packet < stops.len() {
@@ -269,7 +270,7 @@ fn conflict_among(
     requires { SimplePaths stops.now hops.now × (length starts.now ≡ length stops.now) × InTime starts.now
         × EntriesBefore stops.now hops.now starts.now 0 firsts.old nexts.old steps.old
         × OnLinks links hops.now × (widest < 64 * length words.old) × (words.old ≡ unmarked (length words.old)) }
-    ensures { FirstAgain (given hops) (all_steps (packets (given stops) (given hops) (given starts))) result }
+    ensures { FirstAgain hops.now (all_steps (packets stops.now hops.now starts.now)) result }
 {
     enter_each(stops, hops, starts, &mut nexts[..], &mut steps[..]);
     first_again(links, hops, firsts, nexts, &steps[..], words)
@@ -278,7 +279,7 @@ fn conflict_among(
 // The same, with rooms of its own.
 fn first_conflict(stops: &[u16], hops: &[u16], starts: &[u16]) -> usize
     requires { SimplePaths stops.now hops.now × (length starts.now ≡ length stops.now) × InTime starts.now }
-    ensures { FirstAgain (given hops) (all_steps (packets (given stops) (given hops) (given starts))) result }
+    ensures { FirstAgain hops.now (all_steps (packets stops.now hops.now starts.now)) result }
 {
     let mut firsts = [0u16; Job::LINKS];
     let mut nexts = [0u16; Job::LINKS];
@@ -301,7 +302,7 @@ fn first_conflict(stops: &[u16], hops: &[u16], starts: &[u16]) -> usize
 fn first_clash(stops: &[u16], hops: &[u16], starts: &[u16]) -> Checked
     requires { SimplePaths stops.now hops.now × (length starts.now ≡ length stops.now) × (length stops.now ≤ packets_most)
         × InTime starts.now }
-    ensures { checked_of result ≡ is (clash_after [] (packets (given stops) (given hops) (given starts))) }
+    ensures { checked_of result ≡ is (clash_after [] (packets stops.now hops.now starts.now)) }
 {
     let hop = first_conflict(stops, hops, starts);
     if hop == hops.len() {
@@ -323,7 +324,7 @@ pub fn plan(
     hops: &[u16],
     starts: &mut [u16],
 ) -> Verdict
-    ensures { PlannedAs (planned (job_in nodes origins ends sources stops hops) (length (given starts))) result (given starts) (left starts) }
+    ensures { PlannedAs (planned (job_of nodes origins.now ends.now sources.now stops.now hops.now) (length starts.old)) result starts.old starts.new }
 {
     let verdict = job::tables(nodes, origins, ends, sources, stops, hops);
     let Verdict::Fine = verdict else {
@@ -346,7 +347,7 @@ pub fn check(
     hops: &[u16],
     starts: &[u16],
 ) -> Checked
-    ensures { checked_of result ≡ checked (job_in nodes origins ends sources stops hops) (given starts) }
+    ensures { checked_of result ≡ checked (job_of nodes origins.now ends.now sources.now stops.now hops.now) starts.now }
 {
     let verdict = job::started(nodes, origins, ends, sources, stops, hops, starts);
     if let Verdict::Refused(refusal) = verdict {
@@ -374,7 +375,7 @@ pub fn lead(
     b: u16,
     link: u16,
 ) -> Led
-    ensures { led_of result ≡ led (job_in nodes origins ends sources stops hops) (given starts) a b link }
+    ensures { led_of result ≡ led (job_of nodes origins.now ends.now sources.now stops.now hops.now) starts.now a b link }
 {
     let verdict = job::started(nodes, origins, ends, sources, stops, hops, starts);
     if let Verdict::Refused(refusal) = verdict {

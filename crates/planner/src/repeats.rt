@@ -1,7 +1,6 @@
 // Entries that repeat one before them: each link's steps are compared with the one before and, unless each is later, marked one by one, and
 // the marks wiped; where a step was marked already, the hops are walked, in list order.
 ghost use Rattle.std.specs.Prelude.{◌≡◌, false, List, ℕ, ◌-◌, ◌≤◌, length, take, drop};
-ghost use Rattle.rules.specs.Handed.{given, left};
 ghost use Rattle.marks.specs.Marks.{unmarked};
 ghost use Rattle.planner.specs.Entries.{Below};
 ghost use Rattle.planner.specs.Again.{FirstAgain, InOrder};
@@ -13,8 +12,8 @@ use job::wide;
 // stays in hand for as long as the steps fall in it, so that no look at it waits for a store.
 fn mark_to_repeat(steps: &[u16], words: &mut [u64]) -> usize
     requires { Markable steps.now words.old }
-    ensures first_repeat { FirstRepeat (given steps) result }
-    ensures marks { MarksWithin (take result (given steps)) (left words) }
+    ensures first_repeat { FirstRepeat steps.now result }
+    ensures marks { MarksWithin (take result steps.now) words.new }
 {
     let mut word = marks::take_word(words, 0);
     let mut place = 0;
@@ -37,7 +36,7 @@ fn mark_to_repeat(steps: &[u16], words: &mut [u64]) -> usize
 // Takes the marks of the steps away, where no word has others.
 fn unmark(steps: &[u16], words: &mut [u64])
     requires { MarksWithin steps.now words.old }
-    ensures { left words ≡ unmarked (length (given words)) }
+    ensures { words.new ≡ unmarked (length words.old) }
 {
     let mut at = 0;
     while at < steps.len() {
@@ -49,8 +48,8 @@ fn unmark(steps: &[u16], words: &mut [u64])
 // The place of the first step that stands among those before it, or the number of steps. No mark is left.
 fn first_repeat(steps: &[u16], words: &mut [u64]) -> usize
     requires { Markable steps.now words.old }
-    ensures first_repeat { FirstRepeat (given steps) result }
-    ensures clear { left words ≡ given words }
+    ensures first_repeat { FirstRepeat steps.now result }
+    ensures clear { words.new ≡ words.old }
 {
     let repeat = mark_to_repeat(steps, words);
     unmark(&steps[0..repeat], words);
@@ -59,7 +58,7 @@ fn first_repeat(steps: &[u16], words: &mut [u64]) -> usize
 
 // Whether each step is later than the one before it, so that none repeats another.
 fn each_later(steps: &[u16]) -> bool
-    ensures { result ≡ each_later (given steps) }
+    ensures { result ≡ each_later steps.now }
 {
     let mut at = 1;
     while at < steps.len() {
@@ -75,8 +74,8 @@ fn each_later(steps: &[u16]) -> bool
 // with packets that follow one another along a path, none does, and no mark is needed.
 fn cut(from: u16, to: u16, steps: &[u16], words: &mut [u64]) -> u16
     requires { (from ≤ to) × (to ≤ length steps.now) × Markable steps.now words.old }
-    ensures lower_bound { (from ≤ result) × FirstRepeat (take (to - from) (drop from (given steps))) (result - from) }
-    ensures clear { left words ≡ given words }
+    ensures lower_bound { (from ≤ result) × FirstRepeat (take (to - from) (drop from steps.now)) (result - from) }
+    ensures clear { words.new ≡ words.old }
 {
     let part = &steps[wide(from)..wide(to)];
     if each_later(part) {
@@ -95,8 +94,8 @@ fn cut_at_repeats(
     words: &mut [u64],
 ) -> bool
     requires { Cuttable links firsts.now nexts.old steps.now words.old }
-    ensures cut { Cut (given firsts) (given nexts) (given steps) (left nexts) }
-    ensures whole { result ≡ false → SameParts (given nexts) (left nexts) }
+    ensures cut { Cut firsts.now nexts.old steps.now nexts.new }
+    ensures whole { result ≡ false → SameParts nexts.old nexts.new }
 {
     let mut shorter = false;
     let mut l = 0;
@@ -113,7 +112,7 @@ fn cut_at_repeats(
 // The first hop whose entry lies at its link's cut, or the number of hops. Each hop before it moves its link's place on.
 fn first_beyond(hops: &[u16], firsts: &mut [u16], cuts: &[u16]) -> usize
     requires { Walkable hops.now firsts.old cuts.now }
-    ensures { FirstBeyond (given hops) (given firsts) (given cuts) result }
+    ensures { FirstBeyond hops.now firsts.old cuts.now result }
 {
     let mut hop = 0;
     'hops: loop {
@@ -140,7 +139,7 @@ pub(crate) fn first_again(
     words: &mut [u64],
 ) -> usize
     requires { Below hops.now links × Cuttable links firsts.old nexts.old steps.now words.old }
-    ensures { (all : List ℕ) → InOrder (given hops) all (given firsts) (given nexts) (given steps) → FirstAgain (given hops) all result }
+    ensures { (all : List ℕ) → InOrder hops.now all firsts.old nexts.now steps.now → FirstAgain hops.now all result }
 {
     let shorter = cut_at_repeats(links, firsts, nexts, steps, words);
     if shorter {

@@ -1,4 +1,3 @@
-pub mod Handed
 pub mod Sizes
 pub mod Network
 pub mod Path

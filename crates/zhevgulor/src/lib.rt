@@ -1,12 +1,13 @@
 // What a C program calls: include/zhevgulor.h declares it. Each function is thin over a proved one.
+#![tactic(auto)]
+
 ghost use Rattle.std.specs.Prelude.{◌≡◌, [], ◌∷◌, length};
-ghost use Rattle.rules.specs.Handed.{given, left};
 ghost use Rattle.rules.specs.Outcome.{is, onward};
 ghost use Rattle.rules.specs.Tables.{tables as tables_verdict};
 ghost use Rattle.rules.specs.Answers.{planned, led, in_room, written};
-ghost use Rattle.job.specs.Lists.{job_in};
+ghost use Rattle.job.specs.Lists.{job_of};
 ghost use Rattle.job.specs.Told.{refusal_of};
-ghost use Rattle.job_text.specs.Told.{lists_given, lists_left, reading_of};
+ghost use Rattle.job_text.specs.Told.{lists, reading_of};
 ghost use Rattle.plan_text.specs.Told.{written_of};
 ghost use Rattle.zhevgulor.specs.Told.{answer_for, lead_for, read_for, about_text, LentAs, ReadFor};
 ghost use Rattle.zhevgulor.specs.Promise.{PlanPromise, CheckPromise};
@@ -84,7 +85,7 @@ pub extern "C" fn zhevgulor_tables(
     stops: &[u16],
     hops: &[u16],
 ) -> Answer
-    ensures { result ≡ answer_for (onward (tables_verdict (job_in nodes origins ends sources stops hops)) (λ fine. is 0)) }
+    ensures { result ≡ answer_for (onward (tables_verdict (job_of nodes origins.now ends.now sources.now stops.now hops.now)) (λ fine. is 0)) }
 {
     let verdict = job::tables(nodes, origins, ends, sources, stops, hops);
     match verdict {
@@ -104,7 +105,7 @@ pub extern "C" fn zhevgulor_starts(
     hops: &[u16],
     starts: &mut [u16],
 ) -> Answer
-    ensures { LentAs (planned (job_in nodes origins ends sources stops hops) (length (given starts))) result (given starts) (left starts) }
+    ensures { LentAs (planned (job_of nodes origins.now ends.now sources.now stops.now hops.now) (length starts.old)) result starts.old starts.new }
 {
     let verdict = planner::plan(nodes, origins, ends, sources, stops, hops, starts);
     match verdict {
@@ -115,7 +116,7 @@ pub extern "C" fn zhevgulor_starts(
 
 // The four numbers of a clash, where there is room for them.
 fn shown(later: u16, earlier: u16, link: u16, step: Step, clash: &mut [u32]) -> Answer
-    ensures { LentAs (in_room (later ∷ earlier ∷ link ∷ step.0 ∷ []) (length (given clash))) result (given clash) (left clash) }
+    ensures { LentAs (in_room (later ∷ earlier ∷ link ∷ step.0 ∷ []) (length clash.old)) result clash.old clash.new }
 {
     if clash.len() < 4 {
         return refused(Refusal::ShortRoom);
@@ -140,7 +141,7 @@ pub extern "C" fn zhevgulor_check(
     starts: &[u16],
     clash: &mut [u32],
 ) -> Answer
-    ensures { CheckPromise (job_in nodes origins ends sources stops hops) (given starts) (given clash) result (left clash) }
+    ensures { CheckPromise (job_of nodes origins.now ends.now sources.now stops.now hops.now) starts.now clash.old result clash.new }
 {
     let checked = planner::check(nodes, origins, ends, sources, stops, hops, starts);
     match checked {
@@ -169,7 +170,7 @@ pub extern "C" fn zhevgulor_lead(
     b: u16,
     link: u16,
 ) -> LeadAnswer
-    ensures { result ≡ lead_for (led (job_in nodes origins ends sources stops hops) (given starts) a b link) }
+    ensures { result ≡ lead_for (led (job_of nodes origins.now ends.now sources.now stops.now hops.now) starts.now a b link) }
 {
     let led = planner::lead(
         nodes, origins, ends, sources, stops, hops, starts, a, b, link,
@@ -209,7 +210,7 @@ pub extern "C" fn zhevgulor_plan_text(
     starts: &[u16],
     room: &mut [u8],
 ) -> Answer
-    ensures { LentAs (written (job_in nodes origins ends sources stops hops) (given starts) (length (given room))) result (given room) (left room) }
+    ensures { LentAs (written (job_of nodes origins.now ends.now sources.now stops.now hops.now) starts.now (length room.old)) result room.old room.new }
 {
     let text = plan_text::write(nodes, origins, ends, sources, stops, hops, starts, room);
     told(text)
@@ -218,7 +219,7 @@ pub extern "C" fn zhevgulor_plan_text(
 // From a job's text to its plan's text: value is the number of bytes, which stand in the first places.
 #[unsafe(no_mangle)]
 pub extern "C" fn zhevgulor_plan(job: &[u8], room: &mut [u8]) -> Answer
-    ensures { PlanPromise (given job) (given room) result (left room) }
+    ensures { PlanPromise job.now room.old result room.new }
 {
     let text = plan_text::from_text::answer(job, room);
     told(text)
@@ -257,7 +258,7 @@ pub extern "C" fn zhevgulor_read(
     stops: &mut [u16],
     hops: &mut [u16],
 ) -> ReadAnswer
-    ensures { ReadFor (given job) result (lists_given origins ends sources stops hops) (lists_left origins ends sources stops hops) }
+    ensures { ReadFor job.now result (lists origins.old ends.old sources.old stops.old hops.old) (lists origins.new ends.new sources.new stops.new hops.new) }
 {
     let reading = job_text::read(job, origins, ends, sources, stops, hops);
     counts(reading)
@@ -276,7 +277,7 @@ pub extern "C" fn zhevgulor_read_plan(
     plan: &[u8],
     starts: &mut [u16],
 ) -> Answer
-    ensures { ReadPlanPromise (job_in nodes origins ends sources stops hops) (given plan) (given starts) result (left starts) }
+    ensures { ReadPlanPromise (job_of nodes origins.now ends.now sources.now stops.now hops.now) plan.now starts.old result starts.new }
 {
     let verdict = plan_text::reading::read(
         nodes, origins, ends, sources, stops, hops, plan, starts,
@@ -302,7 +303,7 @@ fn about(text: u32, answer: Answer) -> TextsAnswer
 // step stand in the first places.
 #[unsafe(no_mangle)]
 pub extern "C" fn zhevgulor_check_texts(job: &[u8], plan: &[u8], clash: &mut [u32]) -> TextsAnswer
-    ensures { CheckTextsPromise (given job) (given plan) (given clash) result (left clash) }
+    ensures { CheckTextsPromise job.now plan.now clash.old result clash.new }
 {
     let texts = checking::check(job, plan);
     match texts {
