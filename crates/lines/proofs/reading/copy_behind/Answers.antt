@@ -1,7 +1,7 @@
--- Each field that says a number takes its number and its place from what is left; at the first that says none, or at the line's end, nothing is left.
+-- What was to be counted and stored is what is left to be: a field that says a number takes it from there, and at any other none is left.
 use Rattle.std.proofs.Common.{sym, arith}
 use Rattle.lines.proofs.BehindPlaces.{said_behind_lem, unsaid_behind, none_behind}
-use Rattle.lines.proofs.CopyingNumbers.{copying, copying_stored, copying_past, copied_none, copied_all}
+use Rattle.lines.proofs.CopyingNumbers.{copying_stored, copying_past, copied_none, copied_all}
 use Rattle.lines.proofs.reading.copy_behind.Goals as goal
 
 pub loop-value-smaller-then-next-list : goal.loop-value-smaller-then-next-list

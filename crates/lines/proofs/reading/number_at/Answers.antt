@@ -1,8 +1,8 @@
--- What the field says is what the digits that are left say after those that are read.
-use Rattle.std.proofs.Common.{◌≡◌, sym, ◌∙◌, true, drop, arith}
+-- What the field says is what the digits that are left say after those that are read, of which there is one at least.
+use Rattle.std.proofs.Common.{sym, arith}
 use mathlib.Core.Logic.{inl, inr}
-use Rattle.lines.specs.Behind.{ends_here}
-use Rattle.lines.proofs.DigitsBehind.{digits_low, digits_high, digits_over, digits_turn, digits-zero, digits_done, no_first, first_low, first_high, first_digit}
+use Rattle.lines.proofs.DigitsBehind.{digits_low, digits_high, digits_over, digits_turn, digits-zero, digits_done}
+use Rattle.lines.proofs.DigitsBehind.{no_first, first_low, first_high, first_digit}
 use Rattle.lines.proofs.reading.number_at.Goals as goal
 use Rattle.lines.proofs.reading.number_at.Goals.{else-loop-i-test, then-loop-i-test+then-digit-lt-ZERO}
 use Rattle.lines.proofs.reading.number_at.Goals.{else-i-begin-gt1-via-then-i-begin-gt1+else-first-eq-ZERO as not_zero, else-i-begin-gt1-via-else-i-begin-gt1 as one_digit}
