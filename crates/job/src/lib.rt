@@ -96,7 +96,7 @@ const NODE_WORDS: usize = 16;
 pub struct Hop(pub u16);
 
 // A step of the clock.
-#[derive(Drop)]
+#[derive(Clone, Copy)]
 pub struct Step(pub u32);
 
 impl Step {
