@@ -5,7 +5,7 @@ use Rattle.lines.specs.Behind.{line_end}
 use Rattle.lines.proofs.BehindPlaces.{rest-length}
 use Rattle.job.specs.declared.Verdict.TheVariants.{Fine}
 use Rattle.job_text.specs.declared.Reading.TheVariants.{Read}
-use Rattle.job_text.specs.Told.{lists}
+use Rattle.job_text.specs.Told.{Lists, lists}
 use Rattle.job_text.specs.LineInText.{said_at}
 use Rattle.job_text.specs.SoFar.{so_far, counted_of, if_fine, Took}
 use Rattle.job_text.proofs.OneLine.{told_from}
@@ -14,20 +14,23 @@ use Rattle.job_text.proofs.add_lines.Goals as goal
 use Rattle.job_text.proofs.add_lines.Goals.{After-add_line-verdict}
 
 module _ (c : After-add_line-verdict) where
-  -- the lists after the line are as long as before
-  kept : let l = c.loop-cursor in
-      let after = c.add_line-verdict.new in
-      SameLengths (lists l.origins l.ends l.sources l.stops l.hops) (lists after.origins after.ends after.sources after.stops c.line_at-found.new.hops)
+  -- the lists after the line
+  abbrev after : Lists
+  after =
+      let n = c.add_line-verdict.new in
+      lists n.origins n.ends n.sources n.stops c.line_at-found.new.hops
+
+  -- are as long as before
+  kept : let l = c.loop-cursor in SameLengths (lists l.origins l.ends l.sources l.stops l.hops) after
   kept =
       let k = c.add_line-verdict.auto in
       record { origins = k.origins; ends = k.ends; sources = k.sources; stops = k.stops; hops = c.line_at-found.auto.hops }
 
   -- what the line leads to
   took : let l = c.loop-cursor in
-      let after = c.add_line-verdict.new in
       let hops = c.line_at-found.new.hops in
       Took (with_line l.cursor.line (so_far l.job (lists l.origins l.ends l.sources l.stops hops)) (said_at c.args.text.now l.cursor.at))
-      (if_fine c.add_line-verdict.result (counted_of l.job c.line_at-found.result.line)) (lists after.origins after.ends after.sources after.stops hops)
+      (if_fine c.add_line-verdict.result (counted_of l.job c.line_at-found.result.line)) after
   took = c.add_line-verdict.ensures _ (told_from c.line_at-found.ensures.0.line c.wide.ensures)
 
   -- a line that is taken: its counts, and where it ends
@@ -42,7 +45,7 @@ pub returns-in-Refused : goal.returns-in-Refused
 returns-in-Refused c =
     let f = c.line_at-found.ensures in
     let a = (goal.at.returns-in-Refused c).After-add_line-verdict in
-    going_refused c.loop-cursor.invariant c.loop-cursor-test.true f.0 f.1 c.wide.ensures (took a) (rw c.in-Refused.is)
+    going_refused c.loop-cursor.invariant c.loop-cursor-test.true f.0 f.1 c.wide.ensures (took a) {last = after a} (rw c.in-Refused.is)
 
 pub overflow_add-found : goal.overflow_add-found
 overflow_add-found c =

@@ -16,4 +16,5 @@ returns-in_default c =
 
 pub returns : goal.returns
 returns c =
-    λ ss ts hs room. link_added _ _ _ room c.requires.0 _ _ (omega arith) (omega arith) c.in-Fine.is c.link_verdict-verdict.ensures c.wide-links.ensures
+    λ ss ts hs room. link_added _ _ _ room c.requires.0 _ _ (omega arith) (omega arith) c.in-Fine.is c.link_verdict-verdict.ensures
+    c.wide-links.ensures

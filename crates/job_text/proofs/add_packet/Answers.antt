@@ -26,7 +26,8 @@ module _ (c : After-packet_verdict-verdict) (path : List ℕ) (p : PathStands c.
 
   -- the verdict is that on the path
   judged : let a = c.args in
-      verdict_of c.packet_verdict-verdict.result ≡ packet_verdict (network_of a.job.nodes (take a.job.links a.origins.now) (take a.job.links a.ends.now)) a.line a.source path
+      verdict_of c.packet_verdict-verdict.result ≡ packet_verdict
+      (network_of a.job.nodes (take a.job.links a.origins.now) (take a.job.links a.ends.now)) a.line a.source path
   judged =
       c.packet_verdict-verdict.ensures
       ∙ parts_judged _ _ _ c.requires.1 c.requires.0 _ _ few short p c.wide-links.ensures c.wide-from.ensures (omega arith)

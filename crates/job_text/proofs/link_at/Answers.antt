@@ -20,4 +20,5 @@ returns-then-not-begins_at c = λ hops from.
 
 pub returns : goal.returns
 returns c = λ hops from.
-    link_found (said_behind_lem _ _ (sym c.in-Number.ensures)) (said_behind_lem _ _ (sym c.in-Number-field_behind.ensures)) (sym c.if-not-begins_at.ensures)
+    link_found (said_behind_lem _ _ (sym c.in-Number.ensures)) (said_behind_lem _ _ (sym c.in-Number-field_behind.ensures))
+    (sym c.if-not-begins_at.ensures)

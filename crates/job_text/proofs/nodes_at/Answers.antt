@@ -10,7 +10,8 @@ returns-in_default c = λ hops from.
 
 pub returns-then-not-begins_at : goal.returns-then-not-begins_at
 returns-then-not-begins_at c = λ hops from.
-    rw c.bad_line-then-not-begins_at.ensures (found_bad (nodes_unfed (said_behind_lem _ _ (sym c.in-Number.ensures)) (sym c.if-not-begins_at.ensures)))
+    rw c.bad_line-then-not-begins_at.ensures
+    (found_bad (nodes_unfed (said_behind_lem _ _ (sym c.in-Number.ensures)) (sym c.if-not-begins_at.ensures)))
 
 pub returns : goal.returns
 returns c = λ hops from. nodes_found (said_behind_lem _ _ (sym c.in-Number.ensures)) (sym c.if-not-begins_at.ensures)

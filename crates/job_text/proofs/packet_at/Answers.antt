@@ -16,7 +16,8 @@ returns-in_default c =
 
 pub returns-in_default-copy_behind : goal.returns-in_default-copy_behind
 returns-in_default-copy_behind c = let k = c.copy_behind.ensures in (
-  rw c.bad_line-in_default-copy_behind.ensures (found_bad (no_path (said_behind_lem _ _ (sym c.in-Number.ensures)) (sym k.0 ∙ c.in_default-copy_behind.is))),
+  rw c.bad_line-in_default-copy_behind.ensures
+      (found_bad (no_path (said_behind_lem _ _ (sym c.in-Number.ensures)) (sym k.0 ∙ c.in_default-copy_behind.is))),
   kept (goal.at.returns-in_default-copy_behind c).After-copy_behind,
 )
 
