@@ -4,7 +4,7 @@ use Rattle.planner.proofs.EveryPacket.{EnteredToPacket}
 use Rattle.planner.proofs.enter_each.Given as goal
 
 abbrev pub invariant-loop-packet : goal.invariant-loop-packet
-invariant-loop-packet l = 
+invariant-loop-packet l =
     (l.packet ≤ length l.stops) × EnteredToPacket l.stops l.hops l.starts l.initial.nexts l.initial.steps l.nexts l.steps l.packet
 
 abbrev pub decreases-loop-packet : goal.decreases-loop-packet

@@ -5,7 +5,7 @@ use Rattle.rules.specs.Lead.{entry_step}
 use Rattle.planner.proofs.entry.Given as goal
 
 abbrev pub invariant-loop-hop : goal.invariant-loop-hop
-invariant-loop-hop l = 
+invariant-loop-hop l =
     (l.hop ≤ length l.links)
     × (entry_step one_step l.link (get_or l.starts l.packet 0) l.links ≡ entry_step one_step l.link (get_or l.starts l.packet 0 + l.hop) (drop l.hop l.links))
 

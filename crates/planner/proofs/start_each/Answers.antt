@@ -14,8 +14,10 @@ enough c =
     (rw c.loop-k.auto.words c.requires.3)
 
 -- what it finds
-found : (b : After-begin) (c : After-search-start) → c.search-start.result ≡ start_at c.args.stops.now c.args.hops.now c.loop-k.starts c.loop-k.k
-found b c = ?
+found : (c : After-search-start) → c.search-start.result ≡ start_at c.args.stops.now c.args.hops.now c.loop-k.starts c.loop-k.k
+found c =
+    search_found _ _ _ _ c.requires.0 c.loop-k-test.true _ _ _ c.loop-k.invariant.2 _ c.path-path_k.ensures _ _ (enough (goal.at.After-search-start c).After-begin)
+    c.search-start.ensures
 
 pub slice_bounds-search-end : goal.slice_bounds-search-end
 slice_bounds-search-end c = omega (arith, enough c, c.begin.ensures, length-take (c.begin.result / 64 + 1 - 0) c.loop-k.words)
@@ -28,7 +30,7 @@ pub overflow_cast-start : goal.overflow_cast-start
 overflow_cast-start c =
     omega (
       arith,
-      found (goal.at.overflow_cast-start c).After-begin (goal.at.overflow_cast-start c).After-search-start,
+      found (goal.at.overflow_cast-start c).After-search-start,
       start-le_begin _ _ c.loop-k.starts _ c.requires.0 c.loop-k-test.true,
       begin_within _ _ _ _ c.requires.0 c.loop-k-test.true _ _ _ c.loop-k.invariant.2 _ c.path-path_k.ensures,
     )
@@ -36,12 +38,12 @@ overflow_cast-start c =
 pub enter-requires : goal.enter-requires
 enter-requires c =
     enter_ready _ _ _ _ c.requires.0 c.loop-k-test.true _ _ _ c.loop-k.invariant.2 _ c.path-path_k.ensures _
-    (found (goal.at.enter-requires c).After-begin (goal.at.enter-requires c).After-search-start)
+    (found (goal.at.enter-requires c).After-search-start)
 
 pub loop-k-preserved : goal.loop-k-preserved
 loop-k-preserved c = (
   omega arith,
-  one_more _ _ _ _ _ c.loop-k-test.true c.requires.1 c.loop-k.invariant.1 _ (found (goal.at.loop-k-preserved c).After-begin (goal.at.loop-k-preserved c).After-search-start),
+  one_more _ _ _ _ _ c.loop-k-test.true c.requires.1 c.loop-k.invariant.1 _ (found (goal.at.loop-k-preserved c).After-search-start),
   entries_next _ _ _ _ _ c.loop-k-test.true (omega (arith, c.requires.1, c.loop-k.auto.starts)) c.requires.0 _ _ _ c.loop-k.invariant.2 _ c.path-path_k.ensures _ _
       c.enter.auto.nexts c.enter.auto.steps c.enter.ensures.by_index c.enter.ensures.entries,
 )

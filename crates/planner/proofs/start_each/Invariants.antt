@@ -5,7 +5,7 @@ use Rattle.planner.specs.Entries.{EntriesBefore}
 use Rattle.planner.proofs.start_each.Given as goal
 
 abbrev pub invariant-loop-k : goal.invariant-loop-k
-invariant-loop-k l = 
+invariant-loop-k l =
     (l.k ≤ length l.stops)
     × (l.starts ≡ take l.k (greedy_starts l.stops l.hops) ++ drop l.k l.initial.starts)
     × EntriesBefore l.stops l.hops l.starts l.k l.firsts l.nexts l.steps

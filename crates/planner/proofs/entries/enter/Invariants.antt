@@ -4,7 +4,7 @@ use Rattle.planner.proofs.EnteringLinks.{EnteredToHop}
 use Rattle.planner.proofs.entries.enter.Given as goal
 
 abbrev pub invariant-loop-hop : goal.invariant-loop-hop
-invariant-loop-hop l = 
+invariant-loop-hop l =
     (l.hop ≤ length l.path) × (l.offset ≤ l.hop)
     × EnteredToHop l.path l.initial.nexts l.initial.steps l.nexts l.steps l.start l.hop l.offset
 

@@ -1,5 +1,5 @@
 -- The steps that are looked at are those of the hop's link, and past the last hop none is left.
-use Rattle.std.proofs.Common.{◌≡◌, get_or, arith}
+use Rattle.std.proofs.Common.{arith}
 use Rattle.planner.proofs.RulingOut.{marked_turn, marked_done}
 use Rattle.planner.proofs.entries.rule_out.Goals as goal
 

@@ -4,7 +4,7 @@ use Rattle.planner.proofs.RulingOut.{MarkedSoFar}
 use Rattle.planner.proofs.entries.rule_out.Given as goal
 
 abbrev pub invariant-loop-hop : goal.invariant-loop-hop
-invariant-loop-hop l = 
+invariant-loop-hop l =
     (l.hop ≤ length l.path) × (l.offset ≤ l.hop) × MarkedSoFar l.path l.firsts l.nexts l.steps l.initial.words l.words l.hop l.offset
 
 abbrev pub decreases-loop-hop : goal.decreases-loop-hop

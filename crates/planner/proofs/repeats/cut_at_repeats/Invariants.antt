@@ -5,7 +5,7 @@ use Rattle.planner.proofs.PartsCut.{CutTo}
 use Rattle.planner.proofs.repeats.cut_at_repeats.Given as goal
 
 abbrev pub invariant-loop-l : goal.invariant-loop-l
-invariant-loop-l l = 
+invariant-loop-l l =
     CutTo l.firsts l.initial.nexts l.steps l.nexts l.l × (l.words ≡ l.initial.words) × (l.shorter ≡ false → SameParts l.initial.nexts l.nexts)
 
 abbrev pub decreases-loop-l : goal.decreases-loop-l

@@ -1,5 +1,5 @@
 -- A step that is marked repeats one of those before it, since the marks are theirs.
-use Rattle.std.proofs.Common.{◌<◌, length, set, sym, ◌∙◌, arith}
+use Rattle.std.proofs.Common.{set, sym, ◌∙◌, arith}
 use Rattle.marks.proofs.Marking.{word_changed}
 use Rattle.planner.proofs.StepsMarked.{MarkedTo, held_start, held_to_turn, held_to_repeat}
 use Rattle.planner.proofs.repeats.mark_to_repeat.Goals.{After-change_word-word}
