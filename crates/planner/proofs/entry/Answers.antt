@@ -40,4 +40,5 @@ loop-hop-preserved c =
 
 pub returns-clause-result_value : goal.returns-clause-result_value
 returns-clause-result_value c =
-    sym (asked (goal.at.returns-clause-result_value c).After-path-links ∙ c.loop-hop.invariant.1 ∙ entry_nowhere _ _ _ c.loop-hop.hop c.loop-hop-test.false)
+    sym (asked (goal.at.returns-clause-result_value c).After-path-links
+    ∙ c.loop-hop.invariant.1 ∙ entry_nowhere _ _ _ c.loop-hop.hop c.loop-hop-test.false)

@@ -20,4 +20,5 @@ pub returns : goal.returns
 returns c =
     ap checked_of c.clash_at.ensures ∙ checked-clear_or _
     ∙ ap {B = Outcome (Option Clash)} is
-    (clash_found _ _ _ c.requires.0 c.requires.1 _ c.first_conflict-hop.ensures _ _ _ c.packet_of-later.ensures c.begin-from.ensures c.of-step.ensures)
+    (clash_found _ _ _ c.requires.0 c.requires.1 _ c.first_conflict-hop.ensures _ _ _ c.packet_of-later.ensures
+    c.begin-from.ensures c.of-step.ensures)

@@ -9,8 +9,11 @@ returns-then-packet_enters c =
     ∙ holder-here _ _ _ _ c.requires.1 c.requires.2 _ _ _ c.loop-j-test.true (sym c.packet_enters.ensures ∙ c.if-packet_enters.true))
 
 pub loop-j-preserved : goal.loop-j-preserved
-loop-j-preserved c =
-    (omega arith, c.loop-j.invariant.1 ∙ holder_later _ _ _ _ c.requires.1 c.requires.2 _ _ _ c.loop-j-test.true (sym c.packet_enters.ensures ∙ c.if-packet_enters.false))
+loop-j-preserved c = (
+  omega arith,
+  c.loop-j.invariant.1
+      ∙ holder_later _ _ _ _ c.requires.1 c.requires.2 _ _ _ c.loop-j-test.true (sym c.packet_enters.ensures ∙ c.if-packet_enters.false),
+)
 
 pub returns : goal.returns
 returns c = sym (c.loop-j.invariant.1 ∙ holder_nowhere _ _ _ _ c.requires.1 c.requires.2 _ _ _ c.loop-j-test.false)

@@ -27,4 +27,5 @@ entry-second-requires c = lent (goal.at.entry-second-requires c).Else-a-b
 pub returns : goal.returns
 returns c =
     c.difference.ensures
-    ∙ led_apart _ _ _ c.started-verdict.ensures _ _ _ c.in_default.is c.if-a-b.false _ _ c.entry-first.ensures.result_value c.entry-second.ensures.result_value
+    ∙ led_apart _ _ _ c.started-verdict.ensures _ _ _ c.in_default.is c.if-a-b.false
+    _ _ c.entry-first.ensures.result_value c.entry-second.ensures.result_value

@@ -16,15 +16,16 @@ enough c =
 -- what it finds
 found : (c : After-search-start) → c.search-start.result ≡ start_at c.args.stops.now c.args.hops.now c.loop-k.starts c.loop-k.k
 found c =
-    search_found _ _ _ _ c.requires.0 c.loop-k-test.true _ _ _ c.loop-k.invariant.2 _ c.path-path_k.ensures _ _ (enough (goal.at.After-search-start c).After-begin)
-    c.search-start.ensures
+    search_found _ _ _ _ c.requires.0 c.loop-k-test.true _ _ _ c.loop-k.invariant.2 _ c.path-path_k.ensures _ _
+    (enough (goal.at.After-search-start c).After-begin) c.search-start.ensures
 
 pub slice_bounds-search-end : goal.slice_bounds-search-end
 slice_bounds-search-end c = omega (arith, enough c, c.begin.ensures, length-take (c.begin.result / 64 + 1 - 0) c.loop-k.words)
 
 pub search-start-requires : goal.search-start-requires
 search-start-requires c =
-    search_ready _ _ _ _ c.requires.0 c.loop-k-test.true _ _ _ c.loop-k.invariant.2 _ c.path-path_k.ensures _ (enough (goal.at.search-start-requires c).After-begin)
+    search_ready _ _ _ _ c.requires.0 c.loop-k-test.true _ _ _ c.loop-k.invariant.2 _ c.path-path_k.ensures _
+    (enough (goal.at.search-start-requires c).After-begin)
 
 pub overflow_cast-start : goal.overflow_cast-start
 overflow_cast-start c =
@@ -44,8 +45,8 @@ pub loop-k-preserved : goal.loop-k-preserved
 loop-k-preserved c = (
   omega arith,
   one_more _ _ _ _ _ c.loop-k-test.true c.requires.1 c.loop-k.invariant.1 _ (found (goal.at.loop-k-preserved c).After-search-start),
-  entries_next _ _ _ _ _ c.loop-k-test.true (omega (arith, c.requires.1, c.loop-k.auto.starts)) c.requires.0 _ _ _ c.loop-k.invariant.2 _ c.path-path_k.ensures _ _
-      c.enter.auto.nexts c.enter.auto.steps c.enter.ensures.by_index c.enter.ensures.entries,
+  entries_next _ _ _ _ _ c.loop-k-test.true (omega (arith, c.requires.1, c.loop-k.auto.starts)) c.requires.0 _ _ _ c.loop-k.invariant.2
+      _ c.path-path_k.ensures _ _ c.enter.auto.nexts c.enter.auto.steps c.enter.ensures.by_index c.enter.ensures.entries,
 )
 
 pub returns : goal.returns

@@ -5,4 +5,5 @@ use Rattle.planner.proofs.repeats.cut.Goals as goal
 
 pub returns-then-each_later-clause-lower_bound : goal.returns-then-each_later-clause-lower_bound
 returns-then-each_later-clause-lower_bound c =
-    (c.requires.0, cut_nowhere _ _ _ c.requires.0 c.requires.1 (sym (rw (c.wide.ensures, c.wide-2.ensures) at c.each_later.ensures) ∙ c.if-each_later.true))
+    let later = rw (c.wide.ensures, c.wide-2.ensures) at c.each_later.ensures in
+    (c.requires.0, cut_nowhere _ _ _ c.requires.0 c.requires.1 (sym later ∙ c.if-each_later.true))

@@ -6,7 +6,8 @@ use Rattle.planner.proofs.repeats.cut_at_repeats.Goals as goal
 
 pub loop-l-preserved : goal.loop-l-preserved
 loop-l-preserved c = (
-  cut_to_turn c.loop-l.invariant.0 (omega (arith, c.requires.few, c.requires.lengths, c.loop-l.invariant.0.long)) refl refl _ c.cut-end.ensures.lower_bound,
+  cut_to_turn c.loop-l.invariant.0 (omega (arith, c.requires.few, c.requires.lengths, c.loop-l.invariant.0.long)) refl refl _
+      c.cut-end.ensures.lower_bound,
   c.cut-end.ensures.clear ∙ c.loop-l.invariant.1,
   λ e. elim c.if-shorter.branch [
     | then-shorter w ↦ cc

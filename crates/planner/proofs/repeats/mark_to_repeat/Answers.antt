@@ -17,10 +17,10 @@ steps-init c = held_start _ _ c.requires c.take_word-word.ensures.0 c.take_word-
 pub steps-preserved : goal.steps-preserved
 steps-preserved c =
     rw (c.mark_in-word.ensures.0, c.mark_in-word.ensures.1)
-    (held_to_turn _ _ _ (held (goal.at.steps-preserved c).After-change_word-word) c.requires (omega arith) c.wide-step.ensures c.change_word-word.ensures.at_value.0
-    (sym c.is_marked_in.ensures ∙ c.if-is_marked_in.false))
+    (held_to_turn _ _ _ (held (goal.at.steps-preserved c).After-change_word-word) c.requires (omega arith) c.wide-step.ensures
+    c.change_word-word.ensures.at_value.0 (sym c.is_marked_in.ensures ∙ c.if-is_marked_in.false))
 
 pub returns-then-is_marked_in-clause-first_repeat : goal.returns-then-is_marked_in-clause-first_repeat
 returns-then-is_marked_in-clause-first_repeat c =
-    held_to_repeat _ _ _ (held (goal.at.returns-then-is_marked_in-clause-first_repeat c).After-change_word-word) c.requires (omega arith) c.wide-step.ensures
-    c.change_word-word.ensures.at_value.0 (sym c.is_marked_in.ensures ∙ c.if-is_marked_in.true)
+    held_to_repeat _ _ _ (held (goal.at.returns-then-is_marked_in-clause-first_repeat c).After-change_word-word) c.requires (omega arith)
+    c.wide-step.ensures c.change_word-word.ensures.at_value.0 (sym c.is_marked_in.ensures ∙ c.if-is_marked_in.true)
