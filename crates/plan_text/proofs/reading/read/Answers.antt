@@ -1,7 +1,8 @@
 -- The job, the text's length, its lines, the room.
 use Rattle.std.proofs.Common.{[]}
 use Rattle.plan_text.proofs.Finding.{array_places}
-use Rattle.plan_text.proofs.ReadingBack.{tables-lists, tables_of_a_job, back_no_job, back_too_long, back_lines_refused, found_room, back_no_room, back_starts}
+use Rattle.plan_text.proofs.ReadingBack.{tables-lists, tables_of_a_job, back_no_job, back_too_long, back_lines_refused, found_room}
+use Rattle.plan_text.proofs.ReadingBack.{back_no_room, back_starts}
 use Rattle.plan_text.proofs.reading.read.Goals as goal
 
 pub returns-in_default : goal.returns-in_default
