@@ -155,12 +155,11 @@ fn totals_at(plan: &[u8], place: Lines) -> Totals
     }
 }
 
-// The plan's bytes, and the place of the next line in them. It is `pub` for the proofs of its functions, which share a file above
-// this module; nobody else names it.
+// The plan's bytes, and the place of the next line in them.
 #[derive(Drop)]
-pub struct PlanReader<'a> {
-    pub bytes: &'a [u8],
-    pub place: Lines,
+struct PlanReader<'a> {
+    bytes: &'a [u8],
+    place: Lines,
 }
 
 impl<'a> PlanReader<'a> {
