@@ -12,7 +12,7 @@ ghost use Rattle.job.specs.Told.{number_place, verdict_of};
 ghost use Rattle.job.specs.Visited.{mark_of, with_visit, MarkedAs};
 
 // The counts of a job whose lists stand beside it.
-#[derive(Drop)]
+#[derive(Clone, Copy)]
 pub struct Job {
     pub nodes: u16,
     pub links: u16,
@@ -96,7 +96,7 @@ const NODE_WORDS: usize = 16;
 pub struct Hop(pub u16);
 
 // A step of the clock.
-#[derive(Drop)]
+#[derive(Clone, Copy)]
 pub struct Step(pub u32);
 
 impl Step {
@@ -109,7 +109,7 @@ impl Step {
 }
 
 // What can be refused, with its place: a line of a text, a link or a packet.
-#[derive(Drop)]
+#[derive(Clone, Copy)]
 pub enum Refusal {
     TextTooLong,
     BadForm(u32),

@@ -14,14 +14,14 @@ use job::{Job, Refusal, Verdict, link_verdict, packet_verdict, wide};
 use lines::reading::{Copied, Field, Lines, begins_at, copy_behind, field_behind, letter_at};
 
 // The counts of the job that stands in the lists, or why there is none.
-#[derive(Drop)]
+#[derive(Clone, Copy)]
 pub enum Reading {
     Read(Job),
     Refused(Refusal),
 }
 
 // What a line says by itself. The path of a packet, so long, is left in the hops as far as they go.
-#[derive(Drop)]
+#[derive(Clone, Copy)]
 enum Line {
     Nodes(u16),
     Link { from: u16, to: u16 },

@@ -31,7 +31,7 @@ pub fn is_marked(words: &[u64], n: usize) -> bool
 }
 
 // A word of marks in hand, to look at and to mark in, in place of the one that stands among the words.
-#[derive(Drop)]
+#[derive(Clone, Copy)]
 pub struct Word {
     pub at: usize,
     pub bits: u64,

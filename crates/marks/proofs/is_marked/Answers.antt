@@ -7,7 +7,7 @@ use Rattle.marks.proofs.is_marked.Goals as goal
 
 pub returns-then-n-words : goal.returns-then-n-words
 unfolding marked digit
-returns-then-n-words c = ?
+returns-then-n-words c = refl
 
 pub returns-else-n-words : goal.returns-else-n-words
-returns-else-n-words c = ?
+returns-else-n-words c = rw (le-ltb _ _ c.if-n-words.false) (sym (none_beyond _ _ c.if-n-words.false))
