@@ -2,22 +2,21 @@
 #![tactic(auto)]
 
 use answer::ROOM;
-use input::read_all;
+use input::{read_all, tell_failure};
 use job::Job;
-use libc::{STDIN_FILENO, STDOUT_FILENO};
 
 // One byte more than a text may have is read, so that a longer text is seen to be too long, however much of it there is.
-fn main() {
+fn main(rt: HostRuntime) {
     let mut text = [0; Job::TEXT + 1];
-    let input = read_all(STDIN_FILENO, &mut text);
-    if input.failed {
-        os::fail(b"standard input");
+    let input = read_all(&mut rt.stdin(), &mut text);
+    if let Some(error) = input.failed {
+        let _ = tell_failure(&mut rt.stderr(), b"standard input", error);
         return;
     }
     let bytes = input.bytes;
     let mut room = [0; ROOM];
     let count = answer::print(&text[0..bytes], &mut room);
-    if !io::write_all(STDOUT_FILENO, &room[0..count]) {
-        os::fail(b"standard output");
+    if let Err(error) = rt.write_all(&room[0..count]) {
+        let _ = tell_failure(&mut rt.stderr(), b"standard output", error);
     }
 }
