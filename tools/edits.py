@@ -1,5 +1,5 @@
 """The mistakes that the prover must refuse, for the tools that read them: the groups of crates/*/must-fail/*.edit, the function that
-each mistake changes, and what a prover's log says of it.
+each mistake changes, and what rt check says of it.
 
 A group has blocks, parted by blank lines. A block is one mistake:
 
@@ -15,8 +15,8 @@ anywhere else, as in a constant, a contract or a definition, shows in whatever c
 it, and stands alone in its group. Constants that only bodies name may share a group, if what must show each names no other of them. So
 each mistake shows by itself: nothing but itself touches what must show it.
 
-A mistake changes operands and leaves the code's form. Where it adds or takes away a step of a function whose proof is written by hand,
-that proof would be refused after a harmless change too; such a mistake says in a `form:` line why it is one, for a reader to judge."""
+A mistake changes operands and leaves the code's form. Where it adds or takes away a step of a function with a proof written by hand,
+that proof could be refused after a harmless change too; such a mistake says in a `form:` line why it is one, for a reader to judge."""
 import glob, os, re
 from collections import namedtuple
 
@@ -85,21 +85,22 @@ def place(one):
 
 
 def functions(text, file):
-    """The functions of one source file. rt fmt lays them out: a function ends at the first brace that stands alone in its column,
-    and so does the type whose methods it may be one of."""
+    """The functions of one source file. rt fmt lays them out: a function begins with its attributes, and ends at the first brace that
+    stands alone in its column, and so does the type whose methods it may be one of."""
     module = os.path.basename(file)[:-len('.rt')]
     prefix = '' if module in ('lib', 'main') else module + '/'
-    found, of, start = [], '', None
+    found, of, start, above = [], '', None, None
     for number, line in enumerate(text.split('\n'), 1):
         begun = re.match(r'( *)(?:pub(?:\([^)]*\))? )?(?:extern "C" )?fn (\w+)', line)
         if re.match(r'impl\b', line):
             of = re.match(r"impl(?:<[^>]*>)? (?:\w+ for )?(\w+)", line)[1] + '/'
         elif begun and start is None:
-            start, name, edge, body = number, prefix + of + begun[2], begun[1], None
+            start, name, edge, body = above or number, prefix + of + begun[2], begun[1], None
         elif line == '}' and start is None:
             of = ''
+        above = (above or number) if line.lstrip().startswith('#[') else None
         if start is not None:
-            if body is None and (line == edge + '{' or line.endswith(' {') and not re.match(r' *(requires|ensures) ', line)):
+            if body is None and (line == edge + '{' or line.endswith(' {') and not re.match(r' *(requires|ensures)\b', line)):
                 body = number
             if line == edge + '}' or body == number and line.endswith('}'):
                 found.append(Function(name, file, start, body or number, number))
@@ -107,11 +108,12 @@ def functions(text, file):
     return found
 
 
-def crate_functions(folder):
-    """The functions of a crate, whose files stand in that folder, by name."""
+def crate_functions(folder, texts):
+    """The functions of a crate, whose files stand in that folder, by name; those files are changed that have a text."""
     found = {}
     for path in sorted(glob.glob(f'{folder}/src/*.rt')):
-        for one in functions(open(path, encoding='utf-8').read(), 'src/' + os.path.basename(path)):
+        file = 'src/' + os.path.basename(path)
+        for one in functions(texts.get(file) or open(path, encoding='utf-8').read(), file):
             found[one.name] = one
     return found
 
@@ -162,15 +164,16 @@ def steps(texts):
     return sorted(kinds.get(token, token) for token in tokens if token == 'as' or not re.match(r"b?'|\w|[:,]", token))
 
 
-def changes_form(one, held, folder):
-    """Whether a mistake adds or takes away a step of a function whose proof is written by hand."""
-    return bool(proof_of(held, folder)) and steps(pair[1] for pair in one.pairs) != steps(pair[2] for pair in one.pairs)
+def changes_form(one):
+    """Whether a mistake adds or takes away a step."""
+    return steps(pair[1] for pair in one.pairs) != steps(pair[2] for pair in one.pairs)
 
 
 def proof_of(name, folder):
-    """The folder of a function's proof, if it has one. Functions that call each other share one, named +one+other."""
+    """The folder of what is written by hand of a function's proof, if anything is. Functions that call each other share one, named
+    +one+other."""
     above, _, last = f'proofs/{name}'.rpartition('/')
-    for found in glob.glob(f'{folder}/{above}/*/Proof.antt'):
+    for found in glob.glob(f'{folder}/{above}/*/*.antt'):
         if last in os.path.basename(os.path.dirname(found)).split('+'):
             return os.path.relpath(os.path.dirname(found), folder)
     return None
@@ -216,7 +219,7 @@ def showers(found, folder):
     holders = {one.name: holder(one, folder) for one in found}  # each alone first, since each may be tried alone
     texts = apply(found, folder)
     code = {}
-    for f in crate_functions(folder).values():
+    for f in crate_functions(folder, texts).values():
         text = texts.get(f.file) or open(f'{folder}/{f.file}', encoding='utf-8').read()
         code[f.name] = '\n'.join(bare(text).split('\n')[f.first - 1:f.last])
     shown, changed = {}, {}
@@ -224,11 +227,11 @@ def showers(found, folder):
         held = holders[one.name]
         if held and one.shows:
             raise Trouble(f'{place(one)}: it changes the function {held}, which must show it: no "# shows:" line')
-        if held and changes_form(one, held, folder) and not one.form:
-            raise Trouble(f'{place(one)}: it adds or takes away a step of {held}, and then a harmless change would be refused too:'
+        if held and changes_form(one) and proof_of(held, folder) and not one.form:
+            raise Trouble(f'{place(one)}: it adds or takes away a step of {held}, and then a harmless change could be refused too:'
                           ' change operands only, or let a line "# form: WHY" say why it is a mistake')
-        if one.form and not (held and changes_form(one, held, folder)):
-            raise Trouble(f'{place(one)}: it leaves the form of the code, or no proof written by hand stands on it: no "# form:" line')
+        if one.form and not (held and changes_form(one)):
+            raise Trouble(f'{place(one)}: it leaves the form of the code: no "# form:" line')
         if not held and not one.shows:
             raise Trouble(f'{place(one)}: it changes no function\'s body: a line "# shows: NAME" has to say which function or theorem'
                           ' shows it')
@@ -258,55 +261,59 @@ def showers(found, folder):
     return shown
 
 
-Said = namedtuple('Said', 'file line column name text')  # an error: where, the need or theorem that it names, what it says
+Said = namedtuple('Said', 'file line column name text')  # an error: where, the goal or theorem that it names, what it says
 
 
-def said(log, below):
-    """The errors that a prover's log tells of a crate whose files stand below that folder."""
-    found = []
+def said(log):
+    """The errors that rt check tells of a crate."""
+    found, goes_on = [], False
     for line in log.split('\n'):
-        told = re.match(rf'(note: )?.*?{re.escape(below)}/(\S+?):(\d+):(\d+): (error: )?(.*)', line)
+        told = re.match(r'(note: )?(?:\./)?(\S+?):(\d+):(\d+): (error: )?(.*)', line)
         if told and (told[5] or told[1] and 'it is not proved that' in told[6]):
-            name = re.match(r'`([^`]+)`: ', told[6]) or re.search(r'\(`([^`]+)`\)$', told[6])
-            found.append(Said(told[2], int(told[3]), int(told[4]), name[1] if name else '', told[6]))
-        elif found and line.startswith('  '):
+            name = re.match(r'`([^`]+)`: ', told[6]) or re.search(r'\(`([^`]+)`\)', told[6])
+            text = re.sub(r'; the facts known there allow .*', '', told[6])  # which is not always looked for
+            found.append(Said(told[2], int(told[3]), int(told[4]), name[1] if name else '', text))
+            goes_on = True
+        elif goes_on and line.startswith('  '):
             found[-1] = found[-1]._replace(text=found[-1].text + '\n' + line.strip())
+        else:
+            goes_on = False
     return sorted(found)  # the prover's order may change from run to run
 
 
-def own(show, folder, found):
-    """Those errors that are in what must show a mistake. The folder has the edited files, to whose lines the errors refer."""
+def own(show, folder, texts, found):
+    """Those errors that are in what must show a mistake. The texts are those of the files as edited, to whose lines the errors refer."""
     name, file = show
     if file:
         return [s for s in found if s.file == file and s.name == name]
-    function = crate_functions(folder)[name]
+    function = crate_functions(folder, texts)[name]
     proof = proof_of(name, folder)
     return [s for s in found if proof and s.file.startswith(proof + '/')
             or s.file == function.file and function.first <= s.line <= function.last]
 
 
-FOLLOWS = re.compile(r'was not admitted .* so this cannot be checked')
+FOLLOWS = re.compile(r'declarations? that depends? on .*, (was|were) not checked')
 NOT_THERE = re.compile('|'.join((
     r'has no (field|`)', r'not in scope', r'is not a record', r'not determined', r'that can be named from here', r'unexpected',
     r'no proof: expected')))
-OTHER_NEED = re.compile(r'expected type `[^` ]*\bNeed-[^`]*`,?\s*but this has type `[^` ]*\bNeed-')
 REFUSED = re.compile('|'.join((
-    r'`omega`: (the goal does not follow|the part)', r'`search`: no proof of', r"`rw`: no (occurrence of the path's|part of the goal)",
-    r'give a proof of that as the last argument', r'the two types (are|differ|first differ)',
+    r'`omega`: (the goal does not follow|the part)', r'`search`: no proof of', r'`grind`(: the goal does not follow| found no proof)',
+    r'`cc`(: the equations do not join| met a bound of its own before the equations had joined)',
+    r"`rw`: no (occurrence of the path's|part of the goal)", r'`simp`: no equation of the list',
+    r'give a proof of that as the last argument', r'the two (types|sides) (are|differ|first differ)',
     r'expected type `[^`]*`,?\s*but this has type', r'does not hold \(this comparison')))
 
 
 def kind(one):
-    """What an error says: a fact, that is a need or a theorem, by name, that is refused for what it says; that a proof does not fit the
-    code's shape, with names, fields or needs that are not there; or only that something before it was refused. What is not known to be
+    """What an error says: a fact, that is a goal or a theorem, by name, that is refused for what it says; that a proof does not fit the
+    code's shape, with names, fields or goals that are not there; or only that something before it was refused. What is not known to be
     a fact is counted as shape."""
     first = one.text.split('\n')[0]
     if FOLLOWS.search(first):
         return 'follows'
     if first.startswith('it is not proved that'):
         return 'fact'
-    # a function's `-spec` only puts its proved needs together
-    if not one.name or one.name.endswith('-spec') or NOT_THERE.search(first) or OTHER_NEED.search(one.text):
+    if not one.name or NOT_THERE.search(first):
         return 'shape'
     return 'fact' if REFUSED.search(one.text) else 'shape'
 
