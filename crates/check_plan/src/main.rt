@@ -3,6 +3,7 @@
 
 ghost use Rattle.std.specs.Prelude.{◌≤◌, ℕ, List, ◌++◌, codes, length, OnOk};
 ghost use Rattle.std.specs.Io.KnownBytes.{Appends};
+ghost use Rattle.rules.specs.CheckedTexts.{checks};
 
 use checking::ROOM;
 use input::{Input, read_all, tell_failure};
@@ -103,6 +104,15 @@ fn read_named(
     }
 }
 
+// Writes what the check of a plan's text against a job's finds, and nothing else.
+pub fn print<W: Write>(job: &[u8], plan: &[u8], out: &mut W) -> io::Result<()>
+    ensures { OnOk result (Appends (W.contents out.old) (W.contents out.new) (checks job.now plan.now)) }
+{
+    let mut room = [0; ROOM];
+    let count = checking::print(job, plan, &mut room);
+    out.write_all(&room[0..count])
+}
+
 // One byte more than a text may have is read of each file, so that a longer text is seen to be too long, however much of it there is. Both are
 // closed before anything is printed: where standard output was closed, a file that is opened gets its number.
 fn main(rt: HostRuntime) {
@@ -122,9 +132,8 @@ fn main(rt: HostRuntime) {
     }
     let job_bytes = job_input.bytes;
     let plan_bytes = plan_input.bytes;
-    let mut room = [0; ROOM];
-    let count = checking::print(&job[0..job_bytes], &plan[0..plan_bytes], &mut room);
-    if let Err(error) = rt.write_all(&room[0..count]) {
+    let written = print(&job[0..job_bytes], &plan[0..plan_bytes], &mut rt.stdout());
+    if let Err(error) = written {
         let _ = tell_failure(&mut errors, b"standard output", error);
     }
 }
