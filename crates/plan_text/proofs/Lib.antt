@@ -11,4 +11,3 @@ pub mod Finding
 pub mod ReadingBack
 pub mod Obeys
 pub mod OneAnswer
-pub mod Walks

@@ -124,7 +124,7 @@ fn packet_lines(room: &mut [u8], stops: &[u16], starts: &[u16]) -> usize
 }
 
 // What the plan's last line says: routing time, C and D.
-#[derive(Drop)]
+#[derive(Clone, Copy)]
 struct Counts {
     time: u32,
     c: u32,
@@ -185,7 +185,7 @@ pub(crate) fn write_accepted(
 ) -> Written
     requires { Writable links stops.now hops.now starts.now }
     ensures { (j : RuledJob) → ListsOf j links stops.now hops.now → started_verdict j starts.now ≡ fine
-        → WrittenAs (written j starts.now (length room.now)) result room.now room.new }
+        → WrittenAs (written j starts.now (length room.old)) result room.old room.new }
 {
     let counts = Counts::of(links, stops, hops, starts);
     if !fits_in(room.len(), stops, starts, counts) {

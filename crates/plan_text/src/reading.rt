@@ -155,8 +155,7 @@ fn totals_at(plan: &[u8], place: Lines) -> Totals
     }
 }
 
-// The plan's bytes, and the place of the next line in them. It is `pub` for the proofs of its functions, which share a file above
-// this module; nobody else names it.
+// The plan's bytes, and the place of the next line in them. It can be named from outside; its functions cannot be called there.
 #[derive(Drop)]
 pub struct PlanReader<'a> {
     pub bytes: &'a [u8],

@@ -105,8 +105,8 @@ pub(crate) fn search(
 // Enters the links of a path, the first of them in the step of the start.
 pub(crate) fn enter(path: &[u16], start: u16, nexts: &mut [u16], steps: &mut [u16])
     requires { Enterable path.now start nexts.old (length steps.old) }
-    ensures by_index { (link : ℕ) → get_or nexts.new link 0 ≡ get_or nexts.now link 0 + occurs link path.now }
-    ensures entries { EntriesAdded path.now (claim_steps (place start (path_claims path.now))) nexts.now steps.now
+    ensures by_index { (link : ℕ) → get_or nexts.new link 0 ≡ get_or nexts.old link 0 + occurs link path.now }
+    ensures entries { EntriesAdded path.now (claim_steps (place start (path_claims path.now))) nexts.old steps.old
         nexts.new steps.new }
 {
     let mut hop = 0;

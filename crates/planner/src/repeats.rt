@@ -139,7 +139,7 @@ pub(crate) fn first_again(
     words: &mut [u64],
 ) -> usize
     requires { Below hops.now links × Cuttable links firsts.old nexts.old steps.now words.old }
-    ensures { (all : List ℕ) → InOrder hops.now all firsts.old nexts.now steps.now → FirstAgain hops.now all result }
+    ensures { (all : List ℕ) → InOrder hops.now all firsts.old nexts.old steps.now → FirstAgain hops.now all result }
 {
     let shorter = cut_at_repeats(links, firsts, nexts, steps, words);
     if shorter {

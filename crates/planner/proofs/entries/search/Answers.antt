@@ -1,0 +1,7 @@
+-- The starts that are ruled out are marked, and the first without a mark is taken.
+use Rattle.planner.proofs.StartsFound.{first_free-found}
+use Rattle.planner.proofs.entries.search.Goals as goal
+
+pub returns : goal.returns
+returns c =
+    λ bs entries within. first_free-found _ _ _ _ bs entries _ _ _ c.clear.ensures c.rule_out.ensures _ c.first_unmarked.ensures c.requires.1 within

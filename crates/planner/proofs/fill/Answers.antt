@@ -1,0 +1,19 @@
+-- Each link has room for its hops, and nobody has entered one yet.
+use Rattle.std.proofs.Common.{refl, arith}
+use Rattle.counting.proofs.Places.{zero_at}
+use Rattle.rules.specs.Sizes.{links_most}
+use Rattle.planner.proofs.EntriesKept.{hops_below, entries_none}
+use Rattle.planner.proofs.fill.Goals as goal
+
+pub make_room-requires : goal.make_room-requires
+make_room-requires c =
+    (hops_below _ _ c.requires.0, omega (arith, c.requires.0.few), refl, zero_at links_most, zero_at links_most)
+
+pub start_each-requires : goal.start_each-requires
+start_each-requires c =
+    let r = c.make_room in (
+      c.requires.0,
+      c.requires.1,
+      entries_none _ _ _ _ _ _ c.requires.0.few r.ensures.rooms r.ensures.empty r.auto.firsts r.auto.nexts refl,
+      omega arith,
+    )

@@ -1,0 +1,22 @@
+-- The part is from where the path before stops to its own stop.
+use Rattle.std.proofs.Common.{sym}
+use Rattle.planner.specs.PacketsInLists.{path_at}
+use Rattle.planner.proofs.PathParts.{Part, part}
+use Rattle.planner.proofs.path.Goals.{After-wide-to}
+use Rattle.planner.proofs.path.Goals as goal
+
+-- the part that is cut
+cut : (c : After-wide-to) → Part c.args.hops.now (path_at c.args.stops.now c.args.hops.now c.args.k) c.begin-from.result c.wide-to.result
+cut c = part _ _ _ c.requires.0 c.requires.1 _ _ c.begin-from.ensures c.wide-to.ensures
+
+pub slice_bounds-result-count : goal.slice_bounds-result-count
+slice_bounds-result-count c = (cut c).rises
+
+pub slice_bounds-result-start : goal.slice_bounds-result-start
+slice_bounds-result-start c = (cut c).rises
+
+pub slice_bounds-result-end : goal.slice_bounds-result-end
+slice_bounds-result-end c = (cut c).within
+
+pub returns : goal.returns
+returns c = sym (cut (goal.at.returns c).After-wide-to).links
