@@ -320,7 +320,8 @@ NOT_THERE = re.compile('|'.join((
 REFUSED = re.compile('|'.join((
     r'`omega`: (the goal does not follow|the part)', r'`search`: no proof of', r'`grind`(: the goal does not follow| found no proof)',
     r'`cc`(: the equations do not join| met a bound of its own before the equations had joined)',
-    r"`rw`: no (occurrence of the path's|part of the goal)", r'`simp`: no equation of the list',
+    r"`rw`: (no occurrence of the path's|no part of the goal|the first part of the goal that looks like an instance)",
+    r'`simp`: no equation of the list',
     r'give a proof of that as the last argument', r'the two (types|sides) (are|differ|first differ)',
     r'expected type `[^`]*`,?\s*but this has type', r'does not hold \(this comparison')))
 
