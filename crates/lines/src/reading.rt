@@ -18,7 +18,7 @@ const NUMBER_MOST: u32 = 65535;
 const LINE_MOST: u32 = 4294967295;
 
 // Where a line begins, and its number.
-#[derive(Drop)]
+#[derive(Clone, Copy)]
 pub struct Lines {
     pub at: usize,
     pub line: u32,
