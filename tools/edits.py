@@ -19,8 +19,8 @@ each mistake shows by itself: nothing but itself touches what must show it.
 A mistake changes operands and leaves the code's form. Where it adds or takes away a step of a function with a proof written by hand,
 that proof could be refused after a harmless change too; such a mistake says in a `form:` line why it is one, for a reader to judge.
 
-The name of a goal has in it the conditions that lead there, as `then-n-lt10` has `n < 10`. A mistake in a condition says in a `names:`
-line how it changes such a part of a name, and the proof is tried with that part renamed: else it would only miss the old names."""
+The name of a goal has in it the operands and the conditions that lead there, as `then-n-lt10` has `n < 10`. A mistake in one of these says
+in a `names:` line how it changes that part of a name, and the proof is tried with it renamed: else it would only miss the old names."""
 import glob, os, re
 from collections import namedtuple
 
