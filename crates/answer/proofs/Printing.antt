@@ -2,12 +2,12 @@
 use mathlib.Core.Path.{◌≡◌, refl, sym, ◌∙◌}
 use mathlib.Core.Bool.{true}
 use mathlib.Core.List.{List, [], ◌∷◌}
-use Prim.Native.Nat.{ℕ, ◌≤◌}
+use Prim.Native.Nat.{ℕ, ◌-◌, ◌≤◌}
 use native.Mathlib.Nat.{zero-add}
 use native.Mathlib.Omega.{arith}
 use lib.Dec.{leb}
-use lib.ListN.{length, drop, length-append}
-use lib.Seq.{sets-eq}
+use lib.ListN.{length, take, drop, length-append}
+use lib.Seq.{sets-eq, take-append_seam}
 use borrow.Author.Tests.{le-leb}
 use Rattle.rules.specs.Sizes.{plan_most}
 use Rattle.rules.specs.Outcome.{Outcome, is, refused, onward}
@@ -27,6 +27,12 @@ use Rattle.answer.specs.Told.{PrintedAs}
 pub printed_fits : {text lent after : List ℕ} {count : ℕ} → PrintedAs text count lent after → count ≤ length after
 unfolding lent_after
 printed_fits {text} {lent} p = rw p.room (omega (arith, p.bytes, length-append text (drop (length text) lent)))
+
+-- what is printed is what stands in `&room[0..count]`
+pub printed_first : (text lent after : List ℕ) (count : ℕ) → PrintedAs text count lent after → take (count - 0) after ≡ text
+unfolding lent_after
+printed_first text lent after count p =
+    let all : count - 0 ≡ length text = omega (arith, p.bytes) in rw (all, p.room) (take-append_seam text (drop (length text) lent))
 
 -- a text that is written from the first place on, in a room that it fits
 pub put_printed : {text lent after : List ℕ} {next : ℕ} → Put lent 0 text after next → length text ≤ length lent → PrintedAs text next lent after

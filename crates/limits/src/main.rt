@@ -7,35 +7,28 @@ ghost use Rattle.std.specs.Prelude.{◌≤◌};
 use job::Verdict;
 use planner::Checked;
 
-fn show(name: &[u8], number: u32, place: u32, sum: u64) {
-    io::write_all(1, name);
-    io::write_all(1, b" ");
-    io::print_decimal(1, number as u64);
-    io::write_all(1, b" ");
-    io::print_decimal(1, place as u64);
-    io::write_all(1, b" ");
-    io::print_decimal(1, sum);
-    io::write_all(1, b"\n");
+fn show(rt: &impl Print, name: &str, number: u32, place: u32, sum: u64) {
+    let _ = println!(rt; "{name} {number} {place} {sum}");
 }
 
-fn show_verdict(name: &[u8], verdict: Verdict, sum: u64) {
+fn show_verdict(rt: &impl Print, name: &str, verdict: Verdict, sum: u64) {
     match verdict {
-        Verdict::Fine => show(name, 0, 0, sum),
-        Verdict::Refused(refusal) => show(name, refusal.number(), refusal.place(), sum),
+        Verdict::Fine => show(rt, name, 0, 0, sum),
+        Verdict::Refused(refusal) => show(rt, name, refusal.number(), refusal.place(), sum),
     }
 }
 
 // A clash is shown by its later and earlier packet.
-fn show_checked(name: &[u8], checked: Checked) {
+fn show_checked(rt: &impl Print, name: &str, checked: Checked) {
     match checked {
-        Checked::Clear => show(name, 0, 0, 0),
+        Checked::Clear => show(rt, name, 0, 0, 0),
         Checked::Clash {
             later,
             earlier,
             link,
             step,
-        } => show(name, 100, later as u32, earlier as u64),
-        Checked::Refused(refusal) => show(name, refusal.number(), refusal.place(), 0),
+        } => show(rt, name, 100, later as u32, earlier as u64),
+        Checked::Refused(refusal) => show(rt, name, refusal.number(), refusal.place(), 0),
     }
 }
 
@@ -56,7 +49,7 @@ fn total(starts: &[u16]) -> u64 {
 }
 
 // What a list of a job holds at place i.
-#[derive(Drop)]
+#[derive(Clone, Copy)]
 enum Rule {
     // 0, 1, 2, ..
     Number,
@@ -102,7 +95,7 @@ fn fill(list: &mut [u16], rule: Rule) {
 }
 
 // Packets of one hop, all over one link; at last one of them has none.
-fn packets() {
+fn packets(rt: &impl Print) {
     let most = [0u16; 1024];
     let over = [0u16; 1025];
     let mut stops = [0u16; 1024];
@@ -110,13 +103,14 @@ fn packets() {
     fill(&mut stops, Rule::Next);
     fill(&mut stops_over, Rule::Next);
     let mut starts = [7u16; 1025];
-    on_one_link(b"packets-1024", &most, &stops, &most, &mut starts);
-    on_one_link(b"packets-1025", &over, &stops_over, &over, &mut starts);
+    on_one_link(rt, "packets-1024", &most, &stops, &most, &mut starts);
+    on_one_link(rt, "packets-1025", &over, &stops_over, &over, &mut starts);
     let mut room = [7u16; 1023];
-    on_one_link(b"room-1023", &most, &stops, &most, &mut room);
+    on_one_link(rt, "room-1023", &most, &stops, &most, &mut room);
     stops[1023] = 1023;
     on_one_link(
-        b"last-without-hops",
+        rt,
+        "last-without-hops",
         &most,
         &stops,
         &[0u16; 1023],
@@ -124,31 +118,38 @@ fn packets() {
     );
 }
 
-fn on_one_link(name: &[u8], sources: &[u16], stops: &[u16], hops: &[u16], starts: &mut [u16]) {
+fn on_one_link(
+    rt: &impl Print,
+    name: &str,
+    sources: &[u16],
+    stops: &[u16],
+    hops: &[u16],
+    starts: &mut [u16],
+) {
     let planned = planner::plan(2, &[0u16; 1], &[1u16; 1], sources, stops, hops, starts);
-    show_verdict(name, planned, total(starts));
+    show_verdict(rt, name, planned, total(starts));
 }
 
 // One path along a line of nodes.
-fn path(name: &[u8], links: &[u16], ends: &[u16], hops: &[u16], stops: &[u16]) {
+fn path(rt: &impl Print, name: &str, links: &[u16], ends: &[u16], hops: &[u16], stops: &[u16]) {
     let mut starts = [9u16; 1];
     let verdict = planner::plan(257, links, ends, &[0u16; 1], stops, hops, &mut starts);
-    show_verdict(name, verdict, total(&starts));
+    show_verdict(rt, name, verdict, total(&starts));
 }
 
-fn paths() {
+fn paths(rt: &impl Print) {
     let mut links = [0u16; 256];
     let mut ends = [0u16; 256];
     let mut hops = [0u16; 255];
     fill(&mut links, Rule::Number);
     fill(&mut ends, Rule::Next);
     fill(&mut hops, Rule::Number);
-    path(b"path-255", &links, &ends, &hops, &[255u16; 1]);
-    path(b"path-256", &links, &ends, &links, &[256u16; 1]);
+    path(rt, "path-255", &links, &ends, &hops, &[255u16; 1]);
+    path(rt, "path-256", &links, &ends, &links, &[256u16; 1]);
 }
 
 // All packets on the same sixteen links; for the tables, and for starts that clash at once.
-fn hops_in_all() {
+fn hops_in_all(rt: &impl Print) {
     let mut links = [0u16; 17];
     let mut ends = [0u16; 17];
     let mut stops = [0u16; 1024];
@@ -157,24 +158,26 @@ fn hops_in_all() {
     fill(&mut ends, Rule::Next);
     fill(&mut stops, Rule::Stops);
     fill(&mut hops, Rule::Sixteen);
-    sixteen(&links, &ends, &stops, &hops);
+    sixteen(rt, &links, &ends, &stops, &hops);
 }
 
-fn sixteen(links: &[u16], ends: &[u16], stops: &[u16], hops: &[u16]) {
+fn sixteen(rt: &impl Print, links: &[u16], ends: &[u16], stops: &[u16], hops: &[u16]) {
     let zeros = [0u16; 1024];
     show_verdict(
-        b"hops-16384",
+        rt,
+        "hops-16384",
         job::tables(18, links, ends, &zeros, stops, hops),
         0,
     );
     show_checked(
-        b"all-at-0",
+        rt,
+        "all-at-0",
         planner::check(18, links, ends, &zeros, stops, hops, &zeros),
     );
 }
 
 // One hop more, in the last path.
-fn one_hop_more() {
+fn one_hop_more(rt: &impl Print) {
     let mut links = [0u16; 17];
     let mut ends = [0u16; 17];
     let sources = [0u16; 1024];
@@ -185,14 +188,15 @@ fn one_hop_more() {
     fill(&mut stops, Rule::StopsOver);
     fill(&mut hops, Rule::SixteenOver);
     show_verdict(
-        b"hops-16385",
+        rt,
+        "hops-16385",
         job::tables(18, &links, &ends, &sources, &stops, &hops),
         0,
     );
 }
 
 // Starts at their latest, and one later.
-fn late_starts() {
+fn late_starts(rt: &impl Print) {
     let one = [0u16; 1];
     let next = [1u16; 1];
     let two = [0u16; 2];
@@ -201,27 +205,31 @@ fn late_starts() {
     let mut starts = [0u16; 2];
     starts[1] = 32767;
     show_checked(
-        b"start-32767",
+        rt,
+        "start-32767",
         planner::check(2, &one, &next, &two, &stops, &two, &starts),
     );
     starts[1] = 32768;
     show_checked(
-        b"start-32768",
+        rt,
+        "start-32768",
         planner::check(2, &one, &next, &two, &stops, &two, &starts),
     );
     starts[0] = 65535;
     show_checked(
-        b"both-late",
+        rt,
+        "both-late",
         planner::check(2, &one, &next, &two, &stops, &two, &starts),
     );
     show_checked(
-        b"one-start",
+        rt,
+        "one-start",
         planner::check(2, &one, &next, &two, &stops, &two, &starts[0..1]),
     );
 }
 
 // Nodes, links, packets and hops at their greatest together.
-fn greatest() {
+fn greatest(rt: &impl Print) {
     let mut origins = [0u16; 4096];
     let mut ends = [0u16; 4096];
     let mut sources = [0u16; 1024];
@@ -232,64 +240,78 @@ fn greatest() {
     fill(&mut sources, Rule::RingSource);
     fill(&mut stops, Rule::Stops);
     fill(&mut hops, Rule::RingHop);
-    ring(&origins, &ends, &sources, &stops, &hops);
+    ring(rt, &origins, &ends, &sources, &stops, &hops);
 }
 
-fn ring(origins: &[u16], ends: &[u16], sources: &[u16], stops: &[u16], hops: &[u16]) {
+fn ring(
+    rt: &impl Print,
+    origins: &[u16],
+    ends: &[u16],
+    sources: &[u16],
+    stops: &[u16],
+    hops: &[u16],
+) {
     let mut starts = [5u16; 1024];
     let planned = planner::plan(1024, origins, ends, sources, stops, hops, &mut starts);
-    show_verdict(b"greatest", planned, total(&starts));
+    show_verdict(rt, "greatest", planned, total(&starts));
     show_checked(
-        b"its-check",
+        rt,
+        "its-check",
         planner::check(1024, origins, ends, sources, stops, hops, &starts),
     );
     show_verdict(
-        b"nodes-1025",
+        rt,
+        "nodes-1025",
         job::tables(1025, origins, ends, sources, stops, hops),
         0,
     );
 }
 
 // Lists that are no tables.
-fn no_tables() {
+fn no_tables(rt: &impl Print) {
     let none = [0u16; 0];
     let one = [0u16; 1];
     let two = [0u16; 2];
     let mut falling = [1u16; 2];
     falling[1] = 0;
     show_verdict(
-        b"ends-fewer",
+        rt,
+        "ends-fewer",
         job::tables(2, &two, &one, &two, &two, &two),
         0,
     );
     show_verdict(
-        b"stops-fewer",
+        rt,
+        "stops-fewer",
         job::tables(2, &two, &two, &two, &one, &two),
         0,
     );
     show_verdict(
-        b"stops_fall",
+        rt,
+        "stops-fall",
         job::tables(2, &two, &two, &two, &falling, &none),
         0,
     );
     show_verdict(
-        b"last-stop",
+        rt,
+        "last-stop",
         job::tables(2, &two, &two, &two, &two, &two),
         0,
     );
     show_verdict(
-        b"no_nodes",
+        rt,
+        "no-nodes",
         job::tables(0, &none, &none, &none, &none, &none),
         0,
     );
 }
 
-fn main() {
-    packets();
-    paths();
-    hops_in_all();
-    one_hop_more();
-    late_starts();
-    greatest();
-    no_tables();
+fn main(rt: HostRuntime) {
+    packets(&rt);
+    paths(&rt);
+    hops_in_all(&rt);
+    one_hop_more(&rt);
+    late_starts(&rt);
+    greatest(&rt);
+    no_tables(&rt);
 }

@@ -17,7 +17,7 @@ pub fn clear(words: &mut [u64])
     ensures { words.new ≡ unmarked (length words.old) }
 {
     let mut at = 0;
-    while at < words.len() {
+    'each: while at < words.len() {
         words[at] = 0;
         at += 1;
     }

@@ -1,23 +1,50 @@
 // The program `plan`: a job on standard input, and on standard output its plan, or the line that tells why there is none.
 #![tactic(auto)]
 
-use answer::ROOM;
-use input::read_all;
-use job::Job;
-use libc::{STDIN_FILENO, STDOUT_FILENO};
+ghost use Rattle.std.specs.Prelude.{◌≡◌, IfSome, OnOk};
+ghost use Rattle.std.specs.Io.KnownBytes.{Appends, Keeps};
+ghost use Rattle.std.specs.declared.io.Error.{Error};
+ghost use Rattle.rules.specs.Answers.{plans};
 
-// One byte more than a text may have is read, so that a longer text is seen to be too long, however much of it there is.
-fn main() {
+use answer::ROOM;
+use input::{read_all, tell_failure};
+use job::Job;
+use std::io;
+use std::io::{Read, Write};
+
+// What the system failed at.
+#[derive(Drop)]
+pub enum Failure {
+    Reading(io::Error),
+    Writing(io::Error),
+}
+
+// Reads a job to its end, and writes its plan, or the line that tells why there is none. One byte more than a text may have is read, so that a
+// longer text is seen to be too long, however much of it there is. Where it is known what the reader has, that is what is written about, and
+// nothing else is written. After an error at reading nothing is.
+pub fn print<R: Read, W: Write>(job: &mut R, out: &mut W) -> Result<(), Failure>
+    ensures written { OnOk result (IfSome (R.remaining job.old) (λ text. Appends (W.contents out.old) (W.contents out.new) (plans text))) }
+    ensures unread { (error : Error) → result ≡ Err (Failure.Reading error) → Keeps (W.contents out.old) (W.contents out.new) }
+{
     let mut text = [0; Job::TEXT + 1];
-    let input = read_all(STDIN_FILENO, &mut text);
-    if input.failed {
-        os::fail(b"standard input");
-        return;
+    let input = read_all(job, &mut text);
+    if let Some(error) = input.failed {
+        return Err(Failure::Reading(error));
     }
     let bytes = input.bytes;
     let mut room = [0; ROOM];
     let count = answer::print(&text[0..bytes], &mut room);
-    if !io::write_all(STDOUT_FILENO, &room[0..count]) {
-        os::fail(b"standard output");
+    match out.write_all(&room[0..count]) {
+        Ok(()) => Ok(()),
+        Err(error) => Err(Failure::Writing(error)),
     }
+}
+
+fn main(rt: HostRuntime) {
+    let (what, error) = match print(&mut rt.stdin(), &mut rt.stdout()) {
+        Ok(()) => return,
+        Err(Failure::Reading(error)) => ("standard input", error),
+        Err(Failure::Writing(error)) => ("standard output", error),
+    };
+    let _ = tell_failure(&mut rt.stderr(), what.as_bytes(), error);
 }

@@ -1,4 +1,5 @@
 -- Each exit is the definition with the tests that led there.
+use Rattle.std.proofs.Common.{arith}
 use native.Mathlib.Nat.{pos_of_ne-zero}
 use borrow.Author.Tests.{le-leb, lt-leb, le-ltb, lt-ltb}
 use Rattle.rules.specs.Sizes.{path_most}
@@ -15,7 +16,8 @@ returns-then-source-nodes c = rw (le-leb _ path_most c.if-path-gt-PATH.false, le
 
 pub returns-then-path-eq0 : goal.returns-then-path-eq0
 unfolding packet_verdict
-returns-then-path-eq0 c = rw (le-leb _ path_most c.if-path-gt-PATH.false, lt-ltb _ _ c.if-source-nodes.false, c.if-path-eq0.true)
+returns-then-path-eq0 c =
+    rw (le-leb _ path_most c.if-path-gt-PATH.false, lt-ltb c.args.source c.args.nodes (omega arith), c.if-path-eq0.true)
 
 pub returns : goal.returns
 unfolding packet_verdict

@@ -6,12 +6,12 @@ use Rattle.marks.specs.Marks.{unmarked}
 use Rattle.marks.proofs.Marking.{one-more_cleared}
 use Rattle.marks.proofs.clear.Goals as goal
 
-pub loop-at-init : goal.loop-at-init
+pub each-init : goal.each-init
 unfolding unmarked
-loop-at-init c = (omega arith, refl)
+each-init c = (omega arith, refl)
 
-pub loop-at-preserved : goal.loop-at-preserved
-loop-at-preserved c = (simp length-set (omega arith), one-more_cleared _ _ (omega arith) c.loop-at.invariant.1)
+pub each-preserved : goal.each-preserved
+each-preserved c = (simp length-set (omega arith), one-more_cleared _ _ (omega arith) c.each.invariant.1)
 
 pub returns : goal.returns
-returns c = sym (take_all c.loop-at.at _ (omega arith)) ∙ c.loop-at.invariant.1 ∙ ap unmarked (omega arith)
+returns c = sym (take_all c.each.at _ (omega arith)) ∙ c.each.invariant.1 ∙ ap unmarked (omega arith)

@@ -1,11 +1,9 @@
 -- What the field says is what the digits that are left say after those that are read, of which there is one at least.
-use Rattle.std.proofs.Common.{sym, arith}
-use mathlib.Core.Logic.{inl, inr}
+use Rattle.std.proofs.Common.{sym, arith, rules}
 use Rattle.lines.proofs.DigitsBehind.{digits_low, digits_high, digits_over, digits_turn, digits-zero, digits_done}
 use Rattle.lines.proofs.DigitsBehind.{no_first, first_low, first_high, first_digit}
 use Rattle.lines.proofs.reading.number_at.Goals as goal
 use Rattle.lines.proofs.reading.number_at.Goals.{else-loop-i-test, then-loop-i-test+then-digit-lt-ZERO}
-use Rattle.lines.proofs.reading.number_at.Goals.{else-i-begin-gt1-via-then-i-begin-gt1+else-first-eq-ZERO as not_zero, else-i-begin-gt1-via-else-i-begin-gt1 as one_digit}
 
 pub returns-then-begin-text : goal.returns-then-begin-text
 returns-then-begin-text c = sym (no_first _ _ c.if-begin-text.true)
@@ -39,9 +37,7 @@ returns-then-not-ends_at c =
 
 pub returns-then-first-eq-ZERO : goal.returns-then-first-eq-ZERO
 returns-then-first-eq-ZERO c =
-    sym (digits-zero c.loop-i.invariant.1 (sym c.if-not-ends_at.ensures) c.if-i-begin-gt1.true c.if-first-eq-ZERO.true)
+    sym (digits-zero c.loop-i.invariant.1 (sym c.if-not-ends_at.ensures) (omega arith) c.if-first-eq-ZERO.true)
 
 pub returns : goal.returns
-returns c =
-    sym (digits_done c.loop-i.invariant.1 (sym c.if-not-ends_at.ensures) (λ s. omega (arith, c.loop-i.invariant.0))
-    (elim c.else-i-begin-gt1.branch [ not_zero w ↦ inr w.if-first-eq-ZERO.false | one_digit w ↦ inl w.if-i-begin-gt1.false ]))
+returns c = sym (digits_done c.loop-i.invariant.1 (sym c.if-not-ends_at.ensures) (λ s. omega (arith, c.loop-i.invariant.0)) (search rules))
