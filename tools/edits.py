@@ -156,13 +156,14 @@ def trial_texts(found, shown, folder):
     texts = apply(found, folder)
     for one in found:
         proof = proof_of(shown[one.name][0], folder)
-        if one.names and not proof:
-            raise Trouble(f'{place(one)}: nothing of the proof of {shown[one.name][0]} is written by hand: no "# names:" line')
-        for path in sorted(glob.glob(f'{folder}/{proof}/*.antt')) if one.names else []:
-            text = open(path, encoding='utf-8').read()
-            for old, new in one.names:
-                text = re.sub(rf'(?<!\w){re.escape(old)}(?!\w)', new, text)
-            texts[os.path.relpath(path, folder)] = text
+        paths = glob.glob(f'{folder}/{proof}/*.antt') if proof else []
+        proofs = {os.path.relpath(path, folder): open(path, encoding='utf-8').read() for path in paths}
+        for old, new in one.names:
+            part = rf'(?<!\w){re.escape(old)}(?!\w)'
+            if '-' not in old or not any(re.search(rf'\b(goal|c|l)\.[\w.+-]*{part}', text) for text in proofs.values()):
+                raise Trouble(f'{place(one)}: "# names: {old} {new}": no goal or step is named so in what is written of the proof')
+            proofs = {file: re.sub(part, new, text) for file, text in proofs.items()}
+        texts.update(proofs if one.names else {})
     return texts
 
 
