@@ -138,7 +138,7 @@ def run(page):
         ('names where nothing is written by hand', {'g': TWO.replace('file:', '# names: a-gt0 a-gt1\nfile:')}, '', nothing,
          'no goal or step is named so'),
         ('names that are no goal\'s', {'g': NAMES.replace('a-gt0', 'then-a')}, '', nothing, 'no goal or step is named so'),
-        ('names of a value', {'g': NAMES.replace('a-gt0 a-gt1', 'a-gt0.true a-gt0.false').replace('a-gt0.', '')}, '', nothing,
+        ('names of a value', {'g': NAMES.replace('a-gt0 a-gt1', 'true false')}, '', nothing,
          'no goal or step is named so'),
         ('a proof refused with what it stands on', both[0], AT_ONE + FOLLOWS + FACT_TWO, nothing,
          'one: first shows no fact: it is refused only with something'),
