@@ -318,6 +318,7 @@ FOLLOWS = re.compile(r'declarations? that depends? on .*, (was|were) not checked
 NOT_THERE = re.compile('|'.join((
     r'has no (field|`)', r'not in scope', r'is not a record', r'not determined', r'that can be named from here', r'unexpected',
     r'no proof: expected')))
+OTHER_GOAL = re.compile(r'expected type `[^` ]*\b[gG]oals?\.[^`]*`,?\s*but this has type `[^` ]*\b[gG]oals?\.')
 REFUSED = re.compile('|'.join((
     r'`omega`: (the goal does not follow|the part)', r'`search`: no proof of', r'`grind`(: the goal does not follow| found no proof)',
     r'`cc`(: the equations do not join| met a bound of its own before the equations had joined)',
@@ -329,14 +330,14 @@ REFUSED = re.compile('|'.join((
 
 def kind(one):
     """What an error says: a fact, that is a goal or a theorem, by name, that is refused for what it says; that a proof does not fit the
-    code's shape, with names, fields or goals that are not there; or only that something before it was refused. What is not known to be
+    code's shape, with names, fields or goals that are not there or in another's place; or only that something before it was refused. What is not known to be
     a fact is counted as shape."""
     first = one.text.split('\n')[0]
     if FOLLOWS.search(first):
         return 'follows'
     if first.startswith('it is not proved that'):
         return 'fact'
-    if not one.name or NOT_THERE.search(first):
+    if not one.name or NOT_THERE.search(first) or OTHER_GOAL.search(one.text):
         return 'shape'
     return 'fact' if REFUSED.search(one.text) else 'shape'
 

@@ -52,6 +52,7 @@ SHAPES = (
     '`returns`: record `Rattle.toy.proofs.first.Lts.Start` has no field `before`\n',
     '`returns`: `add-a` is not in scope\n',
     '`returns-2`: `goal.returns-2`: module `Rattle.toy.proofs.first.Goals` has no `returns-2` that can be named from here\n',
+    '`returns`: expected type `goal.returns-2`\n  but this has type `goal.returns`\n  the two types differ only where one has `0`\n',
     '`returns`: something that was never seen before\n',
     '`returns`: something that was never seen before\n./proofs/first/Answers.antt:2:1: note: the two sides may simply be different\n'
     '  expected type `x`, but this has type `y`\n',

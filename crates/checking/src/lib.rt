@@ -17,7 +17,7 @@ use lines::writing;
 use planner::Checked;
 
 // What two texts come to: what the check finds, or which of them is refused.
-#[derive(Drop)]
+#[derive(Clone, Copy)]
 pub enum Texts {
     Clear,
     Clash {

@@ -92,7 +92,7 @@ impl Job {
 const NODE_WORDS: usize = 16;
 
 // A position along a path.
-#[derive(Drop)]
+#[derive(Clone, Copy)]
 pub struct Hop(pub u16);
 
 // A step of the clock.
@@ -175,7 +175,7 @@ impl Refusal {
     }
 }
 
-#[derive(Drop)]
+#[derive(Clone, Copy)]
 pub enum Verdict {
     Fine,
     Refused(Refusal),

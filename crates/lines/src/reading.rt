@@ -51,7 +51,7 @@ impl Lines {
 }
 
 // The field after one that ends at a place: its number and where it ends.
-#[derive(Drop)]
+#[derive(Clone, Copy)]
 pub enum Field {
     Number { value: u16, end: usize },
     NoNumber,
@@ -150,7 +150,7 @@ pub fn field_behind(text: &[u8], at: usize) -> Field
 }
 
 // How many fields follow in the line, if each says a number, and where the line ends.
-#[derive(Drop)]
+#[derive(Clone, Copy)]
 pub enum Copied {
     Numbers { count: usize, end: usize },
     NoNumber,

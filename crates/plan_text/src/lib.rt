@@ -169,7 +169,7 @@ fn fits_in(bytes: usize, stops: &[u16], starts: &[u16], counts: Counts) -> bool
 }
 
 // The number of bytes written, or the refusal.
-#[derive(Drop)]
+#[derive(Clone, Copy)]
 pub enum Written {
     Bytes(u32),
     Refused(Refusal),

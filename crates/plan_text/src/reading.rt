@@ -156,7 +156,7 @@ fn totals_at(plan: &[u8], place: Lines) -> Totals
 }
 
 // The plan's bytes, and the place of the next line in them. It can be named from outside; its functions cannot be called there.
-#[derive(Drop)]
+#[derive(Clone, Copy)]
 pub struct PlanReader<'a> {
     pub bytes: &'a [u8],
     pub place: Lines,

@@ -172,7 +172,7 @@ fn difference(first: Entered, second: Entered) -> Led
     Led::By(one.0 as i32 - other.0 as i32)
 }
 
-#[derive(Drop)]
+#[derive(Clone, Copy)]
 pub enum Checked {
     Clear,
     Clash {
@@ -356,7 +356,7 @@ pub fn check(
     first_clash(stops, hops, starts)
 }
 
-#[derive(Drop)]
+#[derive(Clone, Copy)]
 pub enum Led {
     By(i32),
     Refused(Refusal),

@@ -1,4 +1,4 @@
-// What a C program calls: include/zhevgulor.h declares it. Each function is thin over a proved one.
+// What a C program calls: include/zhevgulor.h declares it, and zhevgulor_c exports it. Each function is thin over a proved one.
 #![tactic(auto)]
 
 ghost use Rattle.std.specs.Prelude.{◌≡◌, [], ◌∷◌, length};
@@ -21,7 +21,7 @@ use planner::{Checked, Led};
 
 // Refusal 0 and a value, or a refusal's number and its place.
 #[repr(C)]
-#[derive(Drop)]
+#[derive(Clone, Copy)]
 pub struct Answer {
     pub refusal: u32,
     pub value: u32,
@@ -29,7 +29,7 @@ pub struct Answer {
 
 // Refusal 0 and the lead, or a refusal's number and its place.
 #[repr(C)]
-#[derive(Drop)]
+#[derive(Clone, Copy)]
 pub struct LeadAnswer {
     pub refusal: u32,
     pub place: u32,
@@ -38,7 +38,7 @@ pub struct LeadAnswer {
 
 // Refusal 0, value 0 and how much of each thing the job has; or a refusal's number and its place, and 0 of each thing.
 #[repr(C)]
-#[derive(Drop)]
+#[derive(Clone, Copy)]
 pub struct ReadAnswer {
     pub refusal: u32,
     pub value: u32,
@@ -50,7 +50,7 @@ pub struct ReadAnswer {
 
 // An answer on two texts, and which of them is refused: 0 neither, 1 the job's, 2 the plan's.
 #[repr(C)]
-#[derive(Drop)]
+#[derive(Clone, Copy)]
 pub struct TextsAnswer {
     pub text: u32,
     pub refusal: u32,
@@ -76,8 +76,7 @@ fn refused(refusal: Refusal) -> Answer
 }
 
 // Whether the lists are a job: value 0.
-#[unsafe(no_mangle)]
-pub extern "C" fn zhevgulor_tables(
+pub fn zhevgulor_tables(
     nodes: u16,
     origins: &[u16],
     ends: &[u16],
@@ -95,8 +94,7 @@ pub extern "C" fn zhevgulor_tables(
 }
 
 // The greedy starts of a job: value is the number of packets, whose starts stand in the first places.
-#[unsafe(no_mangle)]
-pub extern "C" fn zhevgulor_starts(
+pub fn zhevgulor_starts(
     nodes: u16,
     origins: &[u16],
     ends: &[u16],
@@ -130,8 +128,7 @@ fn shown(later: u16, earlier: u16, link: u16, step: Step, clash: &mut [u32]) -> 
 
 // The check of starts made elsewhere: value 0 is clear, value 4 a clash, whose later packet, earlier packet, link and step
 // stand in the first places.
-#[unsafe(no_mangle)]
-pub extern "C" fn zhevgulor_check(
+pub fn zhevgulor_check(
     nodes: u16,
     origins: &[u16],
     ends: &[u16],
@@ -157,8 +154,7 @@ pub extern "C" fn zhevgulor_check(
 }
 
 // The lead of packet a over packet b on the link.
-#[unsafe(no_mangle)]
-pub extern "C" fn zhevgulor_lead(
+pub fn zhevgulor_lead(
     nodes: u16,
     origins: &[u16],
     ends: &[u16],
@@ -199,8 +195,7 @@ fn told(text: Written) -> Answer
 }
 
 // The plan's text of a job with starts made elsewhere: value is the number of bytes, which stand in the first places.
-#[unsafe(no_mangle)]
-pub extern "C" fn zhevgulor_plan_text(
+pub fn zhevgulor_plan_text(
     nodes: u16,
     origins: &[u16],
     ends: &[u16],
@@ -217,8 +212,7 @@ pub extern "C" fn zhevgulor_plan_text(
 }
 
 // From a job's text to its plan's text: value is the number of bytes, which stand in the first places.
-#[unsafe(no_mangle)]
-pub extern "C" fn zhevgulor_plan(job: &[u8], room: &mut [u8]) -> Answer
+pub fn zhevgulor_plan(job: &[u8], room: &mut [u8]) -> Answer
     ensures { PlanPromise job.now room.old result room.new }
 {
     let text = plan_text::from_text::answer(job, room);
@@ -249,8 +243,7 @@ fn counts(reading: Reading) -> ReadAnswer
 }
 
 // From a job's text to its lists, which stand in the first places: the counts tell how many.
-#[unsafe(no_mangle)]
-pub extern "C" fn zhevgulor_read(
+pub fn zhevgulor_read(
     job: &[u8],
     origins: &mut [u16],
     ends: &mut [u16],
@@ -266,8 +259,7 @@ pub extern "C" fn zhevgulor_read(
 
 // From a plan's text to the starts that it says for a job as lists: value is the number of packets, whose starts stand in the
 // first places.
-#[unsafe(no_mangle)]
-pub extern "C" fn zhevgulor_read_plan(
+pub fn zhevgulor_read_plan(
     nodes: u16,
     origins: &[u16],
     ends: &[u16],
@@ -301,8 +293,7 @@ fn about(text: u32, answer: Answer) -> TextsAnswer
 
 // The check of a plan's text for a job's text: value 0 is clear, value 4 a clash, whose later packet, earlier packet, link and
 // step stand in the first places.
-#[unsafe(no_mangle)]
-pub extern "C" fn zhevgulor_check_texts(job: &[u8], plan: &[u8], clash: &mut [u32]) -> TextsAnswer
+pub fn zhevgulor_check_texts(job: &[u8], plan: &[u8], clash: &mut [u32]) -> TextsAnswer
     ensures { CheckTextsPromise job.now plan.now clash.old result clash.new }
 {
     let texts = checking::check(job, plan);
