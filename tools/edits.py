@@ -6,6 +6,7 @@ A group has blocks, parted by blank lines. A block is one mistake:
     # NAME: SENTENCE
     # shows: FUNCTION OR THEOREM
     # form: WHY IT IS A MISTAKE
+    # names: OLD NEW
     file: src/lib.rt
     old: TEXT
     new: TEXT
@@ -16,12 +17,16 @@ it, and stands alone in its group. Constants that only bodies name may share a g
 each mistake shows by itself: nothing but itself touches what must show it.
 
 A mistake changes operands and leaves the code's form. Where it adds or takes away a step of a function with a proof written by hand,
-that proof could be refused after a harmless change too; such a mistake says in a `form:` line why it is one, for a reader to judge."""
+that proof could be refused after a harmless change too; such a mistake says in a `form:` line why it is one, for a reader to judge.
+
+The name of a goal has in it the operands and the conditions that lead there, as `then-n-lt10` has `n < 10`. A mistake in one of these says
+in a `names:` line how it changes that part of a name, and the proof is tried with it renamed: else it would only miss the old names."""
 import glob, os, re
 from collections import namedtuple
 
 ROOT = os.path.dirname(os.path.dirname(os.path.abspath(__file__)))
-Mistake = namedtuple('Mistake', 'crate group name sentence shows form pairs line')  # pairs: (file, old, new), line: of its name
+Mistake = namedtuple('Mistake', 'crate group name sentence shows form names pairs line')
+# names: (old, new), pairs: (file, old, new), line: of its name
 Function = namedtuple('Function', 'name file first body last')  # name as in proofs/; lines from 1; body: the line of its brace
 
 
@@ -54,16 +59,18 @@ def read(path):
 def mistake(path, crate, group, block):
     number, first = block[0]
     head = re.fullmatch(r'# (\w+): (\S.*)', first)
-    if not head or head[1] in ('shows', 'form'):
+    if not head or head[1] in ('shows', 'form', 'names'):
         raise Trouble(f'{path}:{number}: a mistake begins with "# NAME: SENTENCE", not with "{first}"')
     shows = form = file = old = None
-    pairs = []
+    names, pairs = [], []
     for at, line in block[1:]:
         word, said = line.split(' ', 1) if ' ' in line else (line, '')
         if line.startswith('# shows: ') and not shows and not file:
             shows = line[len('# shows: '):].strip()
         elif line.startswith('# form: ') and not form and not file:
             form = line[len('# form: '):].strip()
+        elif re.fullmatch(r'# names: \S+ \S+', line) and not file:
+            names.append(tuple(line.split()[2:]))
         elif word == 'file:' and old is None:
             file = said
         elif word == 'old:' and file and old is None and said:
@@ -77,7 +84,7 @@ def mistake(path, crate, group, block):
             raise Trouble(f'{path}:{at}: {head[1]}: "{line}" is not what comes next (see tools/edits.py)')
     if not pairs or old is not None:
         raise Trouble(f'{path}:{number}: {head[1]}: no pair of "old:" and "new:"')
-    return Mistake(crate, group, head[1], head[2], shows, form, tuple(pairs), number)
+    return Mistake(crate, group, head[1], head[2], shows, form, tuple(names), tuple(pairs), number)
 
 
 def place(one):
@@ -141,6 +148,22 @@ def apply(found, folder):
     for one in found:
         for pair in one.pairs:
             replace(place(one) + (', after those above it' if one != found[0] else ''), texts, folder, pair)
+    return texts
+
+
+def trial_texts(found, shown, folder):
+    """The texts of the files that a trial of these mistakes changes: those of apply, and the proofs in which names change."""
+    texts = apply(found, folder)
+    for one in found:
+        proof = proof_of(shown[one.name][0], folder)
+        paths = glob.glob(f'{folder}/{proof}/*.antt') if proof else []
+        proofs = {os.path.relpath(path, folder): open(path, encoding='utf-8').read() for path in paths}
+        for old, new in one.names:
+            part = rf'(?<!\w){re.escape(old)}(?!\w)'
+            if '-' not in old or not any(re.search(rf'\b(goal|c|l)\.[\w.+-]*{part}', text) for text in proofs.values()):
+                raise Trouble(f'{place(one)}: "# names: {old} {new}": no goal or step is named so in what is written of the proof')
+            proofs = {file: re.sub(part, new, text) for file, text in proofs.items()}
+        texts.update(proofs if one.names else {})
     return texts
 
 
@@ -271,8 +294,7 @@ def said(log):
         told = re.match(r'(note: )?(?:\./)?(\S+?):(\d+):(\d+): (error: )?(.*)', line)
         if told and (told[5] or told[1] and 'it is not proved that' in told[6]):
             name = re.match(r'`([^`]+)`: ', told[6]) or re.search(r'\(`([^`]+)`\)', told[6])
-            text = re.sub(r'; the facts known there allow .*', '', told[6])  # which is not always looked for
-            found.append(Said(told[2], int(told[3]), int(told[4]), name[1] if name else '', text))
+            found.append(Said(told[2], int(told[3]), int(told[4]), name[1] if name else '', told[6]))
             goes_on = True
         elif goes_on and line.startswith('  '):
             found[-1] = found[-1]._replace(text=found[-1].text + '\n' + line.strip())
@@ -300,7 +322,8 @@ OTHER_GOAL = re.compile(r'expected type `[^` ]*\b[gG]oals?\.[^`]*`,?\s*but this 
 REFUSED = re.compile('|'.join((
     r'`omega`: (the goal does not follow|the part)', r'`search`: no proof of', r'`grind`(: the goal does not follow| found no proof)',
     r'`cc`(: the equations do not join| met a bound of its own before the equations had joined)',
-    r"`rw`: no (occurrence of the path's|part of the goal)", r'`simp`: no equation of the list',
+    r"`rw`: (no occurrence of the path's|no part of the goal|the first part of the goal that looks like an instance)",
+    r'`simp`: no equation of the list',
     r'give a proof of that as the last argument', r'the two (types|sides) (are|differ|first differ)',
     r'expected type `[^`]*`,?\s*but this has type', r'does not hold \(this comparison')))
 
@@ -319,8 +342,16 @@ def kind(one):
     return 'fact' if REFUSED.search(one.text) else 'shape'
 
 
+def judged(mine):
+    """What the errors of a function say: (kind, error). Where its proof does not fit, a goal that is not proved may be one whose answer has
+    another name: then it is a fact only if the prover found that it is false."""
+    kinds = [kind(one) for one in mine]
+    unsure = lambda one: 'shape' in kinds and one.text.startswith('it is not proved that') and 'at which this goal is false' not in one.text
+    return [('shape' if unsure(one) else its, one) for its, one in zip(kinds, mine)]
+
+
 def without_fact(mine):
     """Why these errors of a function show nothing."""
     if any(kind(one) == 'shape' for one in mine):
-        return "only that its proof no longer fits the code's shape"
+        return "only that its proof no longer fits the code's shape (a condition's names are mended by a \"# names:\" line)"
     return 'it is refused only with something that it stands on' if mine else 'it is still proved'

@@ -57,15 +57,20 @@ SHAPES = (
     '`returns`: something that was never seen before\n./proofs/first/Answers.antt:2:1: note: the two sides may simply be different\n'
     '  expected type `x`, but this has type `y`\n',
 )
+OPEN = 'note: src/lib.rt:5:1: it is not proved that what the function ensures holds when it returns (`returns-then-a-gt1`)'
+FALSE = '; the facts known there allow values at which this goal is false'
+NAMES = ONE.replace('file:', '# names: a-gt0 a-gt1\nfile:')
 FOLLOWS = '1 declaration that depends on `same`, which was not admitted, was not checked: returns\n'
 OTHER = './proofs/third/Answers.antt:3:5: error: `returns`: `omega`: the goal does not follow from what it read\n'
 END = 'logic=not-proved\n'
 RT = """#!/bin/sh
-# Of the crate as it stands it says that it is proved, and of any other what the file log has.
+# Of the crate as it stands it says that it is proved, and of any other what the file log has, or renamed where the proof has that name.
 cd HERE || exit 2
 case $1 in
 version) cat kit ;;
-check) cmp -s "$OLDPWD/src/lib.rt" crates/toy/src/lib.rt && [ ! -e broken ] && echo logic=proved && exit || cat log && exit 1 ;;
+check) cmp -s "$OLDPWD/src/lib.rt" crates/toy/src/lib.rt && [ ! -e broken ] && echo logic=proved && exit
+    grep -q 'then-a-gt1 c.if-a-gt1' "$OLDPWD/proofs/first/Answers.antt" && cat renamed || cat log
+    exit 1 ;;
 esac
 """
 
@@ -82,11 +87,12 @@ def toy(folder, groups, log):
     write(f'{folder}/crates/toy/src/lib.rt', TOY)
     for proved in ('first', 'third'):
         os.makedirs(f'{folder}/crates/toy/proofs/{proved}')
-        write(f'{folder}/crates/toy/proofs/{proved}/Answers.antt', '')
+        write(f'{folder}/crates/toy/proofs/{proved}/Answers.antt', 'returns-then-a-gt0 c.if-a-gt0.true c.a-gt01')
     write(f'{folder}/rt', RT.replace('HERE', folder))
     os.chmod(f'{folder}/rt', 0o755)
     write(f'{folder}/kit', 'a kit')
     write(f'{folder}/log', log + END)
+    write(f'{folder}/renamed', FACT_ONE + END)
 
 
 def read(path):
@@ -125,6 +131,16 @@ def run(page):
         ('a mistake that another function shows', {'g': ONE}, OTHER, nothing, 'one: first shows no fact: it is still proved'),
         *((f'a proof that only does not fit: {shape}', both[0], AT_ONE + shape + FACT_TWO, nothing,
            'one: first shows no fact: only that its proof no longer fits') for shape in SHAPES),
+        ('an open goal, where the proof does not fit', {'g': ONE}, AT_ONE + SHAPES[0] + OPEN + '\n', nothing,
+         'one: first shows no fact: only that its proof no longer fits'),
+        ('a false goal, where the proof does not fit', {'g': ONE}, AT_ONE + SHAPES[0] + OPEN + FALSE + '\n', nothing, None),
+        ('an open goal, where the proof fits', {'g': ONE}, OPEN + '\n', nothing, None),
+        ('a condition whose name changes', {'g': NAMES}, AT_ONE + SHAPES[0], nothing, None),
+        ('names where nothing is written by hand', {'g': TWO.replace('file:', '# names: a-gt0 a-gt1\nfile:')}, '', nothing,
+         'no goal or step is named so'),
+        ('names that are no goal\'s', {'g': NAMES.replace('a-gt0', 'then-a')}, '', nothing, 'no goal or step is named so'),
+        ('names of a value', {'g': NAMES.replace('a-gt0 a-gt1', 'true false')}, '', nothing,
+         'no goal or step is named so'),
         ('a proof refused with what it stands on', both[0], AT_ONE + FOLLOWS + FACT_TWO, nothing,
          'one: first shows no fact: it is refused only with something'),
         ('a location falsified on the page', *both, paged('Answers.antt:3:5', 'Answers.antt:4:5'), 'has, and the trials do not: | `one`'),

@@ -64,7 +64,7 @@ def logs(groups):
         print(f'trying mistakes: {crate} as it stands', flush=True)
         log, status = rt(f'crates/{crate}', 'check')
         if status:
-            unproved[crate] = log.strip().split('\n')[-1]
+            unproved[crate] = why(log)
 
     def work(name):
         crate, texts = groups[name]
@@ -73,8 +73,7 @@ def logs(groups):
         print(f'trying mistakes: {name}, {todo.index(name) + 1} of {len(todo)}', flush=True)
         log, status = tried(crate, texts, '--jobs', '1')
         if not re.search(r'^logic=(not-)?proved', log, re.M):
-            first = next((line for line in log.split('\n') if 'error' in line), log.strip()[-300:])
-            return Trouble(f'{name}: its check ended with status {status} and no verdict: {first}')
+            return Trouble(f'{name}: its check ended with status {status} and no verdict: {why(log)}')
         os.makedirs(os.path.dirname(place(name)), exist_ok=True)
         with open(place(name), 'w', encoding='utf-8') as kept:
             kept.write(sums[name] + '\n' + log)
@@ -83,6 +82,12 @@ def logs(groups):
     with ThreadPoolExecutor(lanes()) as pool:
         said.update(zip(todo, pool.map(work, todo)))
     return said
+
+
+def why(log):
+    """The first line of a log that says what is wrong, or its last."""
+    lines = log.strip().split('\n')
+    return next((line for line in lines if re.search(r'error|^fn \S+: no', line)), lines[-1])[:300]
 
 
 def lanes():
