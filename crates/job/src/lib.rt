@@ -220,6 +220,7 @@ fn mark_of(node: usize) -> usize
 }
 
 // Marks a node as visited, where it has a mark: a node of a job does.
+#[tactic(auto, unfolding(crate::specs::Visited::with_visit))]
 fn visit(words: &mut [u64], node: u16)
     ensures { words.new ≡ with_visit words.old node }
 {
@@ -243,7 +244,6 @@ fn seen(words: &[u64], ends: &[u16], links: &[u16], source: u16, node: u16) -> b
 
 impl Network<'_> {
     // Where a link leaves and where it goes, if there is one of this number.
-    #[tactic(auto, unfolding(rules::specs::Network::link_at))]
     fn link(&self, number: u16) -> Option<(u16, u16)>
         ensures { link_found result ≡ link_at (network_in self.now) number }
     {
@@ -275,14 +275,14 @@ impl Network<'_> {
     }
 
     // One packet: its path's length, its source, that it has hops, then each of them.
+    #[tactic(auto, unfolding(rules::specs::Tables::packet_verdict))]
     pub fn packet_verdict(&self, path: &[u16], source: u16, place: u32) -> Result<(), Refusal>
         ensures { verdict_of result ≡ packet_verdict (network_in self.now) place source path.now }
     {
         if path.len() > Job::PATH {
             return Err(Refusal::Size(place));
         }
-        let nodes = self.nodes;
-        if source >= nodes {
+        if source >= self.nodes {
             return Err(Refusal::NoNode(place));
         }
         if path.is_empty() {
@@ -359,6 +359,7 @@ impl JobLists<'_> {
     }
 
     // The tables of a job: that they agree, their sizes, then links and packets.
+    #[tactic(auto, using(crate::proofs::VerdictLoops::tables_in_order))]
     pub fn tables(&self) -> Result<(), Refusal>
         ensures { verdict_of result ≡ tables_verdict (job_in self.now) }
     {
@@ -373,6 +374,7 @@ impl JobLists<'_> {
     }
 
     // A job with starts made elsewhere: its tables, a start for each packet, none too late.
+    #[tactic(auto, unfolding(rules::specs::Answers::started_verdict))]
     pub fn started(&self, starts: &[u16]) -> Result<(), Refusal>
         ensures { verdict_of result ≡ started_verdict (job_in self.now) starts.now }
     {
