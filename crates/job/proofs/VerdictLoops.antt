@@ -5,6 +5,9 @@ use Rattle.std.proofs.Math.Option.{Option as Maybe, none, some}
 use Rattle.std.proofs.Math.ListN.{get_elem?}
 use Rattle.std.proofs.Common.{Option, Some, None, slice_get, nat_lt, min}
 use Rattle.std.proofs.lemmas.List.Elements.{filter_map-append}
+use Rattle.std.proofs.Common.{unwrap_or}
+use Rattle.std.specs.List.{IsAllAdjacentAnswer}
+use Rattle.std.proofs.lemmas.Option.{unwrap_or-slice_get}
 use Rattle.std.specs.List.{filter_map, cons_option, list_any, position, position_from}
 use Rattle.std.proofs.lemmas.Iterator.Adapters.{position_from-zero}
 use mathlib.Core.Bool.{Bool, true, false, not, ◌&&◌, ◌||◌, and-false}
@@ -14,7 +17,7 @@ use native.Mathlib.Numerals.{add-one, sub-one}
 use native.Mathlib.Nat.{sub-zero, zero-sub, suc-sub-suc}
 use native.Mathlib.Decide.{dec_lt}
 use native.Mathlib.Omega.{arith}
-use borrow.Author.Tests.{leb-true, lt-leb, le-leb, lt-ltb, le-ltb, eq-eqb, eqb-true, ne_eqb}
+use borrow.Author.Tests.{leb-true, leb-false, lt-leb, le-leb, lt-ltb, le-ltb, eq-eqb, eqb-true, ne_eqb}
 use lib.Dec.{eqb, leb}
 use lib.ListN.{length, get_or, take, drop, drop_of_length-le}
 use lib.Seq.{take-suc, take-nil, slice}
@@ -124,6 +127,12 @@ pub stops_fall : (stops : List ℕ) (hops k : ℕ) → k + 1 < length stops → 
 unfolding stops_agree
 stops_fall [] hops k l h = absurd (omega arith)
 stops_fall (stop ∷ stops) hops k l h = rw (falling stop stops hops k (omega arith) (rw (add-one k) at h), and-false)
+
+-- so whether they rise, and the last one, say whether they agree
+pub sorted_stops : (stops : List ℕ) (hops : ℕ) (sorted : Bool) → IsAllAdjacentAnswer (λ x y b. b ≡ leb x y) stops sorted
+    → stops_agree 0 stops hops ≡ (sorted && eqb (unwrap_or (slice_get stops (length stops - 1)) 0) hops)
+sorted_stops stops hops true h = rw unwrap_or-slice_get (stops_rise stops hops (λ k l. leb-true _ _ (sym (h k 0 l))))
+sorted_stops stops hops false h = stops_fall stops hops h.0 h.1 (leb-false _ _ (sym (h.2 0)))
 
 -- the stops from the k-th on
 stops_turn : (hops last : ℕ) (stops : List ℕ) (k : ℕ) {stop : ℕ} → stop ≡ get_or stops k 0 → k < length stops

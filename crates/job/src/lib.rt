@@ -308,7 +308,7 @@ fn stops_agree(stops: &[u16], hops: usize) -> bool
     ensures { result ≡ stops_agree 0 stops.now hops }
 {
     let last = stops.last().copied().unwrap_or(0);
-    stops.is_sorted() && usize::from(last) == hops
+    stops.is_sorted_by(|a, b| a <= b) && usize::from(last) == hops
 }
 
 // The lowest packet whose start is too late.

@@ -1,21 +1,18 @@
 -- Stops that are sorted agree with the last one.
-use Rattle.std.proofs.Common.{◌≡◌, ℕ, ◌-◌, ◌<◌, false, is_le, nat_cmp, length, get_or, sym, ◌∙◌, arith}
-use Rattle.std.proofs.lemmas.Bool.Decides.{nat_tests}
-use Rattle.std.proofs.lemmas.Map.Keys.{le_from_is_le}
-use Rattle.std.proofs.lemmas.Option.{unwrap_or-slice_get}
-use Rattle.job.proofs.VerdictLoops.{stops_rise, stops_fall}
+use Rattle.std.proofs.Common.{◌≡◌, ◌-◌, nat_le, length, slice_get, unwrap_or, rules, tests}
+use Rattle.std.proofs.lemmas.List.Sorted.{answers_always}
+use Rattle.std.specs.List.{IsAllAdjacentAnswer}
+use Rattle.job.proofs.VerdictLoops.{sorted_stops}
+use Rattle.job.proofs.stops_agree.Goals.{After-is_sorted_by}
 use Rattle.job.proofs.stops_agree.Goals as goal
 
-above : (a b : ℕ) → is_le (nat_cmp a b) ≡ false → b < a
-above a b e = grind (arith, nat_tests)
+sorted : (c : After-is_sorted_by) → IsAllAdjacentAnswer (λ x y b. b ≡ nat_le x y) c.args.stops.now c.is_sorted_by.result
+sorted c = c.is_sorted_by.ensures.cases nat_le (answers_always _ _ _ (λ f a r g h. search (rules, tests)))
 
-pub returns-then-is_sorted : goal.returns-then-is_sorted
-returns-then-is_sorted c =
-    let stops = c.args.stops.now in
-    let last : c.from.result ≡ get_or stops (length stops - 1) 0 = rw (c.from.ensures, c.unwrap_or-last.ensures, c.copied.ensures, c.last.ensures.value, unwrap_or-slice_get) in
-    rw last (sym (stops_rise stops c.args.hops (λ k l. le_from_is_le _ _ (c.if-is_sorted.ensures.cases k 0 l))))
+pub returns-then-is_sorted_by : goal.returns-then-is_sorted_by
+returns-then-is_sorted_by c =
+    let last : c.from.result ≡ unwrap_or (slice_get c.args.stops.now (length c.args.stops.now - 1)) 0 = rw (c.from.ensures, c.unwrap_or-last.ensures, c.copied.ensures, c.last.ensures.value) in
+    rw (last, sorted_stops c.args.stops.now c.args.hops _ (sorted (goal.at.returns-then-is_sorted_by c).After-is_sorted_by), c.if-is_sorted_by.true)
 
-pub returns-else-is_sorted : goal.returns-else-is_sorted
-returns-else-is_sorted c =
-    let h = c.if-is_sorted.ensures.cases in
-    c.if-is_sorted.false ∙ sym (stops_fall c.args.stops.now c.args.hops h.0 h.1 (above _ _ (h.2 0)))
+pub returns-else-is_sorted_by : goal.returns-else-is_sorted_by
+returns-else-is_sorted_by c = rw (sorted_stops c.args.stops.now c.args.hops _ (sorted (goal.at.returns-else-is_sorted_by c).After-is_sorted_by), c.if-is_sorted_by.false)
