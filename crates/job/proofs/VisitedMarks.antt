@@ -7,6 +7,9 @@ use native.Mathlib.Decide.{dec_lt}
 use native.Mathlib.Omega.{arith}
 use borrow.Author.Tests.{ne_eqb, lt-ltb, le-ltb}
 use lib.Dec.{eqb}
+use Rattle.std.proofs.Common.{Some, slice_get}
+use native.Mathlib.Numerals.{add-one}
+use lib.Seq.{take-suc}
 use lib.ListN.{length, get_or, take, replicate}
 use Rattle.counting.specs.Count.{among}
 use Rattle.counting.proofs.Tests.{any_append}
@@ -77,5 +80,6 @@ abbrev pub VisitedBefore : (ends path : List ℕ) (source p : ℕ) → List ℕ 
 VisitedBefore ends path source p words = MarkedAs (source ∷ entered ends (take p path)) words
 
 pub visited_turn : (ends path : List ℕ) (source p : ℕ) {link node : ℕ} (words : List ℕ) {more : List ℕ} → link ≡ get_or path p 0 → p < length path
-    → VisitedBefore ends path source p words → node ≡ get_or ends link 0 → more ≡ with_visit words node → VisitedBefore ends path source (p + 1) more
-visited_turn ends path source p words e h m b w = rw (w, b, e, entered-more ends path p h) (marked_more (source ∷ entered ends (take p path)) words _ m)
+    → slice_get ends link ≡ Some node → VisitedBefore ends path source p words → more ≡ with_visit words node → VisitedBefore ends path source (p + 1) more
+visited_turn ends path source p {link} {node} words e h s m w =
+    rw (w, add-one p, take-suc path p 0, ← e, entered-more ends (take p path) link node s) (marked_more (source ∷ entered ends (take p path)) words node m)

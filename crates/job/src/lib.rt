@@ -1,18 +1,18 @@
 // A job as lists: its sizes, steps and hops, what can be refused, and the verdict on its tables.
 #![tactic(auto)]
 
-ghost use Rattle.std.specs.Prelude.{◌≡◌, true, [], ◌∷◌, ℕ, ◌+◌, ◌≤◌, ◌<◌, length, get_or, take};
+ghost use Rattle.std.specs.Prelude.{◌≡◌, true, [], ◌∷◌, ℕ, ◌+◌, ◌≤◌, ◌<◌, length, get_or, take, slice_get};
 ghost use Rattle.counting.specs.Count.{among};
 ghost use Rattle.rules.specs.Sizes.{nodes_most, links_most, packets_most, path_most, hops_most, text_most, plan_most, start_most};
-ghost use Rattle.rules.specs.Network.{paths};
+ghost use Rattle.rules.specs.Network.{link_at, paths};
 ghost use Rattle.rules.specs.Tables.{link_verdict, walk as walk_verdict, packet_verdict, links_verdict, packets_verdict, stops_agree, tables as tables_verdict};
 ghost use Rattle.rules.specs.Answers.{starts_verdict, started_verdict};
-ghost use Rattle.job.specs.Lists.{network_of, job_of, entered, sizes_fit};
+ghost use Rattle.job.specs.Lists.{network_of, network_in, job_in, link_found, is_node, entered, lists_agree, sizes_fit};
 ghost use Rattle.job.specs.Told.{number_place, verdict_of};
 ghost use Rattle.job.specs.Visited.{mark_of, with_visit, MarkedAs};
 
 // The counts of a job whose lists stand beside it.
-#[derive(Clone, Copy)]
+#[derive(Clone, Copy, Debug, PartialEq, Eq)]
 pub struct Job {
     pub nodes: u16,
     pub links: u16,
@@ -92,11 +92,11 @@ impl Job {
 const NODE_WORDS: usize = 16;
 
 // A position along a path.
-#[derive(Clone, Copy)]
+#[derive(Clone, Copy, Debug, PartialEq, Eq)]
 pub struct Hop(pub u16);
 
 // A step of the clock.
-#[derive(Clone, Copy)]
+#[derive(Clone, Copy, Debug, PartialEq, Eq)]
 pub struct Step(pub u32);
 
 impl Step {
@@ -104,12 +104,12 @@ impl Step {
     pub fn of(start: u16, hop: Hop) -> Step
         ensures { result.0 ≡ start + hop.0 }
     {
-        Step(start as u32 + hop.0 as u32)
+        Step(u32::from(start) + u32::from(hop.0))
     }
 }
 
 // What can be refused, with its place: a line of a text, a link or a packet.
-#[derive(Clone, Copy)]
+#[derive(Clone, Copy, Debug, PartialEq, Eq)]
 pub enum Refusal {
     TextTooLong,
     BadForm(u32),
@@ -129,102 +129,90 @@ pub enum Refusal {
 }
 
 impl Refusal {
-    // The number that the papers give it: document 01, and document 02 for those of its requests.
+    // The number that the papers give it, by document 01, and by document 02 for those of its requests, and its place: 0 where it has none.
+    fn number_place(self) -> (u32, u32)
+        ensures { result ≡ number_place self }
+    {
+        match self {
+            Refusal::TextTooLong => (1, 0),
+            Refusal::BadForm(line) => (2, line),
+            Refusal::Size(place) => (3, place),
+            Refusal::NoNode(place) => (4, place),
+            Refusal::SelfLink(place) => (5, place),
+            Refusal::NoLink(place) => (6, place),
+            Refusal::NotLeaving(place) => (7, place),
+            Refusal::Revisited(place) => (8, place),
+            Refusal::Disagree => (9, 0),
+            Refusal::ShortRoom => (10, 0),
+            Refusal::StartCount => (11, 0),
+            Refusal::LateStart(place) => (12, place),
+            Refusal::NoLead => (13, 0),
+            Refusal::NotFollowing(line) => (14, line),
+            Refusal::NoHops(place) => (15, place),
+        }
+    }
+
     pub fn number(self) -> u32
         ensures { result ≡ (number_place self).0 }
     {
-        match self {
-            Refusal::TextTooLong => 1,
-            Refusal::BadForm(_) => 2,
-            Refusal::Size(_) => 3,
-            Refusal::NoNode(_) => 4,
-            Refusal::SelfLink(_) => 5,
-            Refusal::NoLink(_) => 6,
-            Refusal::NotLeaving(_) => 7,
-            Refusal::Revisited(_) => 8,
-            Refusal::Disagree => 9,
-            Refusal::ShortRoom => 10,
-            Refusal::StartCount => 11,
-            Refusal::LateStart(_) => 12,
-            Refusal::NoLead => 13,
-            Refusal::NotFollowing(_) => 14,
-            Refusal::NoHops(_) => 15,
-        }
+        self.number_place().0
     }
 
     pub fn place(self) -> u32
         ensures { result ≡ (number_place self).1 }
     {
-        match self {
-            Refusal::BadForm(line) => line,
-            Refusal::Size(place) => place,
-            Refusal::NoNode(place) => place,
-            Refusal::SelfLink(place) => place,
-            Refusal::NoLink(place) => place,
-            Refusal::NotLeaving(place) => place,
-            Refusal::Revisited(place) => place,
-            Refusal::LateStart(place) => place,
-            Refusal::NotFollowing(line) => line,
-            Refusal::NoHops(place) => place,
-            Refusal::TextTooLong => 0,
-            Refusal::Disagree => 0,
-            Refusal::ShortRoom => 0,
-            Refusal::StartCount => 0,
-            Refusal::NoLead => 0,
-        }
+        self.number_place().1
     }
 }
 
+// The nodes of a network, and of each link the node it leaves and the node it enters.
 #[derive(Clone, Copy)]
-pub enum Verdict {
-    Fine,
-    Refused(Refusal),
+pub struct Network<'a> {
+    pub nodes: u16,
+    pub origins: &'a [u16],
+    pub ends: &'a [u16],
 }
 
-// A number of 16 bits, as a place in a list.
-pub fn wide(x: u16) -> usize
-    ensures { result ≡ x }
-{
-    x as usize
+// A job: its network, of each packet the node it starts from and where its path stops in the hops, and the links of all paths.
+#[derive(Clone, Copy)]
+pub struct JobLists<'a> {
+    pub network: Network<'a>,
+    pub sources: &'a [u16],
+    pub stops: &'a [u16],
+    pub hops: &'a [u16],
 }
 
 // One link: its nodes, then that they differ.
-pub fn link_verdict(nodes: u16, from: u16, to: u16, place: u32) -> Verdict
+#[tactic(auto, unfolding(rules::specs::Tables::link_verdict))]
+pub fn link_verdict(nodes: u16, from: u16, to: u16, place: u32) -> Result<(), Refusal>
     ensures { verdict_of result ≡ link_verdict nodes place from to }
 {
-    if from >= nodes {
-        return Verdict::Refused(Refusal::NoNode(place));
-    }
-    if to >= nodes {
-        return Verdict::Refused(Refusal::NoNode(place));
+    if from >= nodes || to >= nodes {
+        return Err(Refusal::NoNode(place));
     }
     if from == to {
-        return Verdict::Refused(Refusal::SelfLink(place));
+        return Err(Refusal::SelfLink(place));
     }
-    Verdict::Fine
+    Ok(())
 }
 
-// Whether the node is the source, or one that the first links of the path enter.
-fn visited(ends: &[u16], path: &[u16], count: usize, source: u16, node: u16) -> bool
-    requires { (count ≤ length path.now) × ((q : ℕ) → q < count → get_or path.now q 0 < length ends.now) }
-    ensures { result ≡ among node (source ∷ entered ends.now (take count path.now)) }
+// Whether the link is there, and enters the node.
+fn enters(ends: &[u16], link: u16, node: u16) -> bool
+    ensures { result ≡ is_node (slice_get ends.now link) node }
 {
-    if source == node {
-        return true;
-    }
-    let mut q = 0;
-    while q < count {
-        let link = wide(path[q]);
-        if ends[link] == node {
-            return true;
-        }
-        q += 1;
-    }
-    false
+    ends.get(usize::from(link)) == Some(&node)
+}
+
+// Whether the node is the source, or one that the links enter.
+fn visited(ends: &[u16], links: &[u16], source: u16, node: u16) -> bool
+    ensures { result ≡ among node (source ∷ entered ends.now links.now) }
+{
+    source == node || links.iter().any(|&link| enters(ends, link, node))
 }
 
 // The number by which a node is marked. Often a path goes on to a node of a neighbouring number, and these have their marks in different
 // words: one that was just written can be slow to read.
+#[tactic(auto, unfolding(crate::specs::Visited::mark_of))]
 fn mark_of(node: usize) -> usize
     ensures { result ≡ mark_of node }
 {
@@ -232,215 +220,168 @@ fn mark_of(node: usize) -> usize
 }
 
 // Marks a node as visited, where it has a mark: a node of a job does.
+#[tactic(auto, unfolding(crate::specs::Visited::with_visit))]
 fn visit(words: &mut [u64], node: u16)
     ensures { words.new ≡ with_visit words.old node }
 {
-    let n = wide(node);
+    let n = usize::from(node);
     if n < Job::NODES {
         marks::mark(words, mark_of(n));
     }
 }
 
-// Whether the node is the source, or one that the first links of the path enter: by its mark, where it has one.
-fn seen(words: &[u64], ends: &[u16], path: &[u16], count: usize, source: u16, node: u16) -> bool
-    requires { (count ≤ length path.now) × ((q : ℕ) → q < count → get_or path.now q 0 < length ends.now)
-        × MarkedAs (source ∷ entered ends.now (take count path.now)) words.now }
-    ensures { result ≡ among node (source ∷ entered ends.now (take count path.now)) }
+// Whether the node is the source, or one that the links enter: by its mark, where it has one.
+fn seen(words: &[u64], ends: &[u16], links: &[u16], source: u16, node: u16) -> bool
+    requires { MarkedAs (source ∷ entered ends.now links.now) words.now }
+    ensures { result ≡ among node (source ∷ entered ends.now links.now) }
 {
-    let asked = wide(node);
+    let asked = usize::from(node);
     if asked < Job::NODES {
         return marks::is_marked(words, mark_of(asked));
     }
-    visited(ends, path, count, source, node)
+    visited(ends, links, source, node)
 }
 
-// The path hop by hop, from its source.
-fn walk(origins: &[u16], ends: &[u16], path: &[u16], source: u16, place: u32) -> Verdict
-    ensures { (n : ℕ) → verdict_of result ≡ walk_verdict (network_of n origins.now ends.now) place source (source ∷ []) path.now }
-{
-    let mut words = [0u64; NODE_WORDS];
-    visit(&mut words, source);
-    let mut reached = source;
-    let mut p = 0;
-    while p < path.len() {
-        let link = wide(path[p]);
-        if link >= origins.len() {
-            return Verdict::Refused(Refusal::NoLink(place));
-        }
-        if link >= ends.len() {
-            return Verdict::Refused(Refusal::NoLink(place));
-        }
-        if origins[link] != reached {
-            return Verdict::Refused(Refusal::NotLeaving(place));
-        }
-        let node = ends[link];
-        if seen(&words, ends, path, p, source, node) {
-            return Verdict::Refused(Refusal::Revisited(place));
-        }
-        visit(&mut words, node);
-        reached = node;
-        p += 1;
+impl Network<'_> {
+    // Where a link leaves and where it goes, if there is one of this number.
+    fn link(&self, number: u16) -> Option<(u16, u16)>
+        ensures { link_found result ≡ link_at (network_in self.now) number }
+    {
+        let number = usize::from(number);
+        Some((*self.origins.get(number)?, *self.ends.get(number)?))
     }
-    Verdict::Fine
-}
 
-// One packet: its path's length, its source, that it has hops, then each of them.
-pub fn packet_verdict(
-    nodes: u16,
-    origins: &[u16],
-    ends: &[u16],
-    path: &[u16],
-    source: u16,
-    place: u32,
-) -> Verdict
-    ensures { verdict_of result ≡ packet_verdict (network_of nodes origins.now ends.now) place source path.now }
-{
-    if path.len() > Job::PATH {
-        return Verdict::Refused(Refusal::Size(place));
+    // The path hop by hop, from its source.
+    fn walk(&self, path: &[u16], source: u16, place: u32) -> Result<(), Refusal>
+        ensures { verdict_of result ≡ walk_verdict (network_in self.now) place source (source ∷ []) path.now }
+    {
+        let mut words = [0u64; NODE_WORDS];
+        visit(&mut words, source);
+        let mut reached = source;
+        for (p, &link) in path.iter().enumerate() {
+            let Some((from, to)) = self.link(link) else {
+                return Err(Refusal::NoLink(place));
+            };
+            if from != reached {
+                return Err(Refusal::NotLeaving(place));
+            }
+            if seen(&words, self.ends, &path[..p], source, to) {
+                return Err(Refusal::Revisited(place));
+            }
+            visit(&mut words, to);
+            reached = to;
+        }
+        Ok(())
     }
-    if source >= nodes {
-        return Verdict::Refused(Refusal::NoNode(place));
+
+    // One packet: its path's length, its source, that it has hops, then each of them.
+    #[tactic(auto, unfolding(rules::specs::Tables::packet_verdict))]
+    pub fn packet_verdict(&self, path: &[u16], source: u16, place: u32) -> Result<(), Refusal>
+        ensures { verdict_of result ≡ packet_verdict (network_in self.now) place source path.now }
+    {
+        if path.len() > Job::PATH {
+            return Err(Refusal::Size(place));
+        }
+        if source >= self.nodes {
+            return Err(Refusal::NoNode(place));
+        }
+        if path.is_empty() {
+            return Err(Refusal::NoHops(place));
+        }
+        self.walk(path, source, place)
     }
-    if path.len() == 0 {
-        return Verdict::Refused(Refusal::NoHops(place));
+
+    // The links in order.
+    fn links_verdict(&self) -> Result<(), Refusal>
+        requires { length self.now.origins.now ≤ links_most }
+        ensures { verdict_of result ≡ links_verdict self.now.nodes 0 self.now.origins.now self.now.ends.now }
+    {
+        for (l, (&from, &to)) in self.origins.iter().zip(self.ends).enumerate() {
+            link_verdict(self.nodes, from, to, l as u32)?;
+        }
+        Ok(())
     }
-    walk(origins, ends, path, source, place)
 }
 
 // Whether the stops never fall, and the last is the number of hops.
 fn stops_agree(stops: &[u16], hops: usize) -> bool
     ensures { result ≡ stops_agree 0 stops.now hops }
 {
-    let mut last = 0;
-    let mut k = 0;
-    while k < stops.len() {
-        let stop = wide(stops[k]);
-        if stop < last {
-            return false;
-        }
-        last = stop;
-        k += 1;
-    }
-    last == hops
-}
-
-fn sizes_fit(nodes: u16, links: usize, packets: usize, hops: usize) -> bool
-    ensures { result ≡ sizes_fit nodes links packets hops }
-{
-    nodes >= 1
-        && wide(nodes) <= Job::NODES
-        && links <= Job::LINKS
-        && packets <= Job::PACKETS
-        && hops <= Job::HOPS
-}
-
-// The links in order.
-fn links_verdict(nodes: u16, origins: &[u16], ends: &[u16]) -> Verdict
-    requires { (length ends.now ≡ length origins.now) × (length origins.now ≤ links_most) }
-    ensures { verdict_of result ≡ links_verdict nodes 0 origins.now ends.now }
-{
-    let mut l = 0;
-    while l < origins.len() {
-        let verdict = link_verdict(nodes, origins[l], ends[l], l as u32);
-        let Verdict::Fine = verdict else {
-            return verdict;
-        };
-        l += 1;
-    }
-    Verdict::Fine
-}
-
-// The packets in order.
-fn packets_verdict(
-    nodes: u16,
-    origins: &[u16],
-    ends: &[u16],
-    sources: &[u16],
-    stops: &[u16],
-    hops: &[u16],
-) -> Verdict
-    requires { (length stops.now ≡ length sources.now) × (length sources.now ≤ packets_most)
-        × (stops_agree 0 stops.now (length hops.now) ≡ true) }
-    ensures { verdict_of result ≡ packets_verdict (network_of nodes origins.now ends.now) 0 sources.now
-        (paths (job_of nodes origins.now ends.now sources.now stops.now hops.now)) }
-{
-    let mut from = 0;
-    let mut k = 0;
-    while k < sources.len() {
-        let to = wide(stops[k]);
-        let verdict = packet_verdict(nodes, origins, ends, &hops[from..to], sources[k], k as u32);
-        let Verdict::Fine = verdict else {
-            return verdict;
-        };
-        from = to;
-        k += 1;
-    }
-    Verdict::Fine
-}
-
-// The tables of a job: that they agree, their sizes, then links and packets.
-pub fn tables(
-    nodes: u16,
-    origins: &[u16],
-    ends: &[u16],
-    sources: &[u16],
-    stops: &[u16],
-    hops: &[u16],
-) -> Verdict
-    ensures { verdict_of result ≡ tables_verdict (job_of nodes origins.now ends.now sources.now stops.now hops.now) }
-{
-    if origins.len() != ends.len() {
-        return Verdict::Refused(Refusal::Disagree);
-    }
-    if sources.len() != stops.len() {
-        return Verdict::Refused(Refusal::Disagree);
-    }
-    if !stops_agree(stops, hops.len()) {
-        return Verdict::Refused(Refusal::Disagree);
-    }
-    if !sizes_fit(nodes, origins.len(), sources.len(), hops.len()) {
-        return Verdict::Refused(Refusal::Size(0));
-    }
-    let links = links_verdict(nodes, origins, ends);
-    let Verdict::Fine = links else {
-        return links;
-    };
-    packets_verdict(nodes, origins, ends, sources, stops, hops)
+    let last = stops.last().copied().unwrap_or(0);
+    stops.is_sorted_by(|a, b| a <= b) && usize::from(last) == hops
 }
 
 // The lowest packet whose start is too late.
-fn starts_verdict(starts: &[u16]) -> Verdict
+fn starts_verdict(starts: &[u16]) -> Result<(), Refusal>
     requires { length starts.now ≤ packets_most }
     ensures { verdict_of result ≡ starts_verdict 0 starts.now }
 {
-    let mut packet = 0;
-    while packet < starts.len() {
-        if starts[packet] > Job::START {
-            return Verdict::Refused(Refusal::LateStart(packet as u32));
-        }
-        packet += 1;
+    match starts.iter().position(|&start| start > Job::START) {
+        Some(packet) => Err(Refusal::LateStart(packet as u32)),
+        None => Ok(()),
     }
-    Verdict::Fine
 }
 
-// A job with starts made elsewhere: its tables, a start for each packet, none too late.
-pub fn started(
-    nodes: u16,
-    origins: &[u16],
-    ends: &[u16],
-    sources: &[u16],
-    stops: &[u16],
-    hops: &[u16],
-    starts: &[u16],
-) -> Verdict
-    ensures { verdict_of result ≡ started_verdict (job_of nodes origins.now ends.now sources.now stops.now hops.now) starts.now }
-{
-    let verdict = tables(nodes, origins, ends, sources, stops, hops);
-    let Verdict::Fine = verdict else {
-        return verdict;
-    };
-    if starts.len() != sources.len() {
-        return Verdict::Refused(Refusal::StartCount);
+impl JobLists<'_> {
+    // The packets in order.
+    fn packets_verdict(&self) -> Result<(), Refusal>
+        requires { (length self.now.stops.now ≡ length self.now.sources.now) × (length self.now.sources.now ≤ packets_most)
+            × (stops_agree 0 self.now.stops.now (length self.now.hops.now) ≡ true) }
+        ensures { verdict_of result ≡ packets_verdict (network_in self.now.network) 0 self.now.sources.now (paths (job_in self.now)) }
+    {
+        let mut from = 0;
+        for (k, (&source, &stop)) in self.sources.iter().zip(self.stops).enumerate() {
+            let to = usize::from(stop);
+            self.network
+                .packet_verdict(&self.hops[from..to], source, k as u32)?;
+            from = to;
+        }
+        Ok(())
     }
-    starts_verdict(starts)
+
+    // Whether the lists are of one job: an end for each origin, a stop for each source, and stops that agree with the hops.
+    fn lists_agree(&self) -> bool
+        ensures { result ≡ lists_agree (job_in self.now) }
+    {
+        self.network.origins.len() == self.network.ends.len()
+            && self.sources.len() == self.stops.len()
+            && stops_agree(self.stops, self.hops.len())
+    }
+
+    // Whether each size is within its bounds.
+    fn sizes_fit(&self) -> bool
+        ensures { result ≡ sizes_fit (job_in self.now) }
+    {
+        (1..=Job::NODES).contains(&usize::from(self.network.nodes))
+            && self.network.origins.len() <= Job::LINKS
+            && self.sources.len() <= Job::PACKETS
+            && self.hops.len() <= Job::HOPS
+    }
+
+    // The tables of a job: that they agree, their sizes, then links and packets.
+    #[tactic(auto, using(crate::proofs::VerdictLoops::tables_in_order))]
+    pub fn tables(&self) -> Result<(), Refusal>
+        ensures { verdict_of result ≡ tables_verdict (job_in self.now) }
+    {
+        if !self.lists_agree() {
+            return Err(Refusal::Disagree);
+        }
+        if !self.sizes_fit() {
+            return Err(Refusal::Size(0));
+        }
+        self.network.links_verdict()?;
+        self.packets_verdict()
+    }
+
+    // A job with starts made elsewhere: its tables, a start for each packet, none too late.
+    #[tactic(auto, unfolding(rules::specs::Answers::started_verdict))]
+    pub fn started(&self, starts: &[u16]) -> Result<(), Refusal>
+        ensures { verdict_of result ≡ started_verdict (job_in self.now) starts.now }
+    {
+        self.tables()?;
+        if starts.len() != self.sources.len() {
+            return Err(Refusal::StartCount);
+        }
+        starts_verdict(starts)
+    }
 }
