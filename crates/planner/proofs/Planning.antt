@@ -2,13 +2,13 @@
 use mathlib.Core.Path.{◌≡◌, sym, ap, ◌∙◌}
 use mathlib.Core.List.{List, [], ◌++◌}
 use Prim.Native.Nat.{ℕ, ◌≤◌, ◌<◌}
+use native.Mathlib.Omega.{arith}
 use lib.ListN.{length, drop}
 use borrow.Author.Tests.{le-leb, lt-leb}
 use Rattle.rules.specs.Network.{Job, paths}
 use Rattle.rules.specs.Travel.{delay_of}
 use Rattle.rules.specs.Outcome.{is, refused}
 use Rattle.rules.specs.Tables.{tables}
-use Rattle.rules.specs.Counts.{link_count}
 use Rattle.rules.specs.Greedy.{greedy_after, greedy}
 use Rattle.rules.specs.Answers.{lent_after, planned}
 use Rattle.theorems.specs.Jobs.{IsJob}
@@ -26,7 +26,11 @@ use Rattle.planner.proofs.Filling.{length-greedy_starts}
 
 pub job_listed : (j : Job) → IsJob j → SimplePaths j.stops j.hops
 unfolding paths
-job_listed j h = record { agree = job_stops_agree j h; few = h.few_hops; links = link_count j; links_few = h.few_links; simple = packets_simple j h }
+job_listed j h = record {
+  agree = job_stops_agree j h;
+  few = h.few_hops;
+  simple = λ p m. let path = packets_simple j h p m in record { below = λ l i. omega (arith, path.below l i, h.few_links); once = path.once };
+}
 
 pub greedy_of_lists : (j : Job) → IsJob j → greedy_starts j.stops j.hops ≡ greedy j
 unfolding greedy_starts greedy paths delay_of

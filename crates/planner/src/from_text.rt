@@ -3,7 +3,8 @@ ghost use Rattle.job_text.specs.Told.{lists, read_in};
 ghost use Rattle.planner.specs.Told.{ReadAndPlannedAs};
 
 use crate::fill;
-use job::{Job, wide};
+use crate::paths::Paths;
+use job::Job;
 use job_text::Reading;
 
 // Reads a job's text into the lists that are lent, and finds its greedy starts, over the first places of another.
@@ -23,7 +24,10 @@ pub fn read_and_plan(
     let Reading::Read(job) = reading else {
         return reading;
     };
-    let packets = wide(job.packets);
-    fill(&stops[0..packets], &hops[0..wide(job.hops)], starts);
+    let paths = Paths {
+        stops: &stops[0..usize::from(job.packets)],
+        hops: &hops[0..usize::from(job.hops)],
+    };
+    fill(&paths, starts);
     reading
 }

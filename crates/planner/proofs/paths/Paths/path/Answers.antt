@@ -2,12 +2,13 @@
 use Rattle.std.proofs.Common.{sym}
 use Rattle.planner.specs.PacketsInLists.{path_at}
 use Rattle.planner.proofs.PathParts.{Part, part}
-use Rattle.planner.proofs.path.Goals.{After-wide-to}
-use Rattle.planner.proofs.path.Goals as goal
+use Rattle.planner.proofs.paths.Paths.path.Goals.{After-from-to}
+use Rattle.planner.proofs.paths.Paths.path.Goals as goal
 
 -- the part that is cut
-cut : (c : After-wide-to) → Part c.args.hops.now (path_at c.args.stops.now c.args.hops.now c.args.k) c.begin-from.result c.wide-to.result
-cut c = part _ _ _ c.requires.0 c.requires.1 _ _ c.begin-from.ensures c.wide-to.ensures
+cut : (c : After-from-to)
+    → Part c.args.self.now.hops.now (path_at c.args.self.now.stops.now c.args.self.now.hops.now c.args.k) c.begin-from.result c.from-to.result
+cut c = part _ _ _ c.args.self.now.simple c.requires _ _ c.begin-from.ensures c.from-to.ensures
 
 pub slice_bounds-result-count : goal.slice_bounds-result-count
 slice_bounds-result-count c = (cut c).rises
@@ -19,4 +20,4 @@ pub slice_bounds-result-end : goal.slice_bounds-result-end
 slice_bounds-result-end c = (cut c).within
 
 pub returns : goal.returns
-returns c = sym (cut (goal.at.returns c).After-wide-to).links
+returns c = sym (cut (goal.at.returns c).After-from-to).links
