@@ -12,17 +12,11 @@ use Rattle.counting.specs.Count.{pick}
 use Rattle.counting.proofs.Places.{some_same, none_not_some, at_below, at-get_or, at_take}
 use Rattle.rules.specs.Network.{paths_from}
 use Rattle.rules.specs.Travel.{one_step}
-use Rattle.rules.specs.Outcome.{is}
 use Rattle.rules.specs.Claims.{Claim, link_claims, Placed, place, placed, taken}
 use Rattle.rules.specs.Check.{Clash, or_else, holder, clash_with, clash_of, clash_after}
 use Rattle.theorems.proofs.Clashes.{found, found-holder}
 use Rattle.theorems.proofs.Placements.{take-placed_by, placed_by_at}
 use Rattle.theorems.proofs.Accepted.{length-paths_from}
-use Rattle.job.specs.declared.Step.{Step}
-use Rattle.planner.specs.declared.Held.{Held}
-use Rattle.planner.specs.declared.Held.TheVariants.{By, Nobody}
-use Rattle.planner.specs.declared.Checked.TheVariants.{Clear, Clash as Shown}
-use Rattle.planner.specs.Told.{held_by, checked_of, clear_or}
 use Rattle.planner.specs.PacketsInLists.{path_claims, path_at, packet_enters, packets, before}
 
 -- a list cut before what stands at i, and after it
@@ -89,19 +83,6 @@ free_held bs link step t = not_found _ (found-holder 0 bs link step ∙ t)
 pub held_first : (k link step : ℕ) (o : Option ℕ) (p : Option Clash) → found o ≡ true → or_else (clash_with k link step o) p ≡ clash_with k link step o
 held_first k link step none p e = absurd (false≢true e)
 held_first k link step (some a) p e = refl
-
--- the clash with the holder that is told, if one is
-module _ (k link : ℕ) (step : Step) (held : Held) (o : Option ℕ) (told : held_by held ≡ o) where
-  pub clash_by_lem : (earlier : ℕ) → held ≡ By earlier → Shown k earlier link step ≡ clear_or (clash_with k link step.0 o)
-  clash_by_lem earlier e = ap (λ (q : Option ℕ). clear_or (clash_with k link step.0 q)) (sym (ap held_by e) ∙ told)
-
-  pub clash_by_nobody : held ≡ Nobody → Clear ≡ clear_or (clash_with k link step.0 o)
-  clash_by_nobody e = ap (λ (q : Option ℕ). clear_or (clash_with k link step.0 q)) (sym (ap held_by e) ∙ told)
-
--- and what the answer says of it
-pub checked-clear_or : (o : Option Clash) → checked_of (clear_or o) ≡ is o
-checked-clear_or none = refl
-checked-clear_or (some x) = refl
 
 -- ---- the clash of packet k, sought from a hop on
 

@@ -45,14 +45,14 @@ begin_end stops hops simple =
 -- a hop is on the path of the packet before which all stop at it or before, if those from there on do not
 pub on_path_of : {stops hops : List ℕ} {hop k : ℕ} → SimplePaths stops hops → hop < length hops → k ≤ length stops
     → IsPartitionPoint (λ stop. leb stop hop ≡ true) (λ stop. leb stop hop ≡ false) stops k → OnPath stops hop k
-on_path_of {stops} {hops} {hop} {k} simple l m point = record { listed = listed; begun = begun k refl; ahead = ahead }
+on_path_of {stops} {hops} {hop} {k} simple l near point = record { listed = listed; begun = begun k refl; ahead = ahead }
   where
     begun : (j : ℕ) → j ≡ k → begin_from 0 stops j ≤ hop
     begun zero e = omega arith
     begun (suc j) e = leb-true (get_or stops j 0) hop (point.0 j 0 (omega arith) (omega arith))
 
     listed : k < length stops
-    listed = ⊎_elim (λ q. omega (arith, rw q at (begun k refl), begin_end stops hops simple)) (λ less. less) (eq-or-lt_of_le m)
+    listed = ⊎_elim (λ q. omega (arith, rw q at (begun k refl), begin_end stops hops simple)) (λ less. less) (eq-or-lt_of_le near)
 
     ahead : hop < get_or stops k 0
     ahead = leb-false (get_or stops k 0) hop (point.1 k 0 (omega arith) listed)

@@ -4,20 +4,20 @@
 ghost use Rattle.std.specs.Prelude.{◌≡◌, ◌++◌, ◌*◌, ◌≤◌, ◌<◌, length, drop};
 ghost use Rattle.rules.specs.Sizes.{hops_most};
 ghost use Rattle.rules.specs.Claims.{place, takes};
+ghost use Rattle.rules.specs.Lead.{lead_of};
 ghost use Rattle.rules.specs.Answers.{planned, checked, led};
-ghost use Rattle.job.specs.Lists.{job_of};
-ghost use Rattle.planner.specs.Told.{checked_of, led_of, PlannedAs};
+ghost use Rattle.job.specs.Lists.{job_in};
+ghost use Rattle.planner.specs.Told.{entered_of, checked_of, led_of, PlannedAs, Near};
 ghost use Rattle.planner.specs.PacketsInLists.{path_claims, greedy_starts};
 ghost use Rattle.planner.specs.Entries.{EntriesBefore};
 
 mod entries;
-pub mod from_text;
 mod paths;
 mod repeats;
 mod started;
 
 use entries::{enter, make_room, search};
-use job::{Job, Refusal, Step, Verdict};
+use job::{Job, JobLists, Refusal, Step};
 use paths::Paths;
 use started::Started;
 
@@ -85,8 +85,18 @@ pub(crate) fn fill(paths: &Paths, starts: &mut [u16])
     );
 }
 
-// Two packets in one step on one link: `later` conflicts with `earlier`, which is listed before it.
-#[derive(Clone, Copy)]
+// The difference of two entry steps, where both packets enter. Document 01 names this form: the steps as i32, one less the other.
+fn difference(first: Option<Step>, second: Option<Step>) -> Result<i32, Refusal>
+    requires { Near first × Near second }
+    ensures { led_of result ≡ lead_of (entered_of first) (entered_of second) }
+{
+    let one = first.ok_or(Refusal::NoLead)?;
+    let other = second.ok_or(Refusal::NoLead)?;
+    Ok(one.0 as i32 - other.0 as i32)
+}
+
+// Two packets enter the link in the step: `later`, and `earlier`, which is listed before it.
+#[derive(Clone, Copy, Debug, PartialEq, Eq)]
 pub struct Clash {
     pub later: u16,
     pub earlier: u16,
@@ -94,95 +104,53 @@ pub struct Clash {
     pub step: Step,
 }
 
-#[derive(Clone, Copy)]
-pub enum Checked {
-    Found(Option<Clash>),
-    Refused(Refusal),
-}
-
 // The greedy starts of a job, in list order, over the first places of the lent list.
-pub fn plan(
-    nodes: u16,
-    origins: &[u16],
-    ends: &[u16],
-    sources: &[u16],
-    stops: &[u16],
-    hops: &[u16],
-    starts: &mut [u16],
-) -> Verdict
-    ensures { PlannedAs (planned (job_of nodes origins.now ends.now sources.now stops.now hops.now) (length starts.old)) result starts.old starts.new }
+pub fn plan(lists: &JobLists, starts: &mut [u16]) -> Result<(), Refusal>
+    ensures { PlannedAs (planned (job_in lists.now) (length starts.old)) result starts.old starts.new }
 {
-    let verdict = job::tables(nodes, origins, ends, sources, stops, hops);
-    let Verdict::Fine = verdict else {
-        return verdict;
-    };
+    lists.tables()?;
+    let JobLists {
+        sources,
+        stops,
+        hops,
+        ..
+    } = *lists;
     if starts.len() < sources.len() {
-        return Verdict::Refused(Refusal::ShortRoom);
+        return Err(Refusal::ShortRoom);
     }
     fill(&Paths { stops, hops }, starts);
-    Verdict::Fine
+    Ok(())
 }
 
 // Whether starts made elsewhere keep all packets apart, and else the clash that is shown.
-pub fn check<'a>(
-    nodes: u16,
-    origins: &[u16],
-    ends: &[u16],
-    sources: &[u16],
-    stops: &'a [u16],
-    hops: &'a [u16],
-    starts: &[u16],
-) -> Checked
-    ensures { checked_of result ≡ checked (job_of nodes origins.now ends.now sources.now stops.now hops.now) starts.now }
+pub fn check(lists: &JobLists, starts: &[u16]) -> Result<Option<Clash>, Refusal>
+    ensures { checked_of result ≡ checked (job_in lists.now) starts.now }
 {
-    let verdict = job::started(nodes, origins, ends, sources, stops, hops, starts);
-    if let Verdict::Refused(refusal) = verdict {
-        return Checked::Refused(refusal);
-    }
-    let started = Started {
-        paths: Paths { stops, hops },
-        starts,
-    };
-    Checked::Found(started.first_clash())
-}
-
-#[derive(Clone, Copy)]
-pub enum Led {
-    By(i32),
-    Refused(Refusal),
+    lists.started(starts)?;
+    let JobLists { stops, hops, .. } = *lists;
+    let paths = Paths { stops, hops };
+    Ok(Started { paths, starts }.first_clash())
 }
 
 // How far packet a is behind packet b on the link: negative where it is ahead.
-pub fn lead<'a>(
-    nodes: u16,
-    origins: &[u16],
-    ends: &[u16],
-    sources: &[u16],
-    stops: &'a [u16],
-    hops: &'a [u16],
-    starts: &[u16],
-    a: u16,
-    b: u16,
-    link: u16,
-) -> Led
-    ensures { led_of result ≡ led (job_of nodes origins.now ends.now sources.now stops.now hops.now) starts.now a b link }
+pub fn lead(lists: &JobLists, starts: &[u16], a: u16, b: u16, link: u16) -> Result<i32, Refusal>
+    ensures { led_of result ≡ led (job_in lists.now) starts.now a b link }
 {
-    let verdict = job::started(nodes, origins, ends, sources, stops, hops, starts);
-    if let Verdict::Refused(refusal) = verdict {
-        return Led::Refused(refusal);
-    }
+    lists.started(starts)?;
     if a == b {
-        return Led::Refused(Refusal::NoLead);
+        return Err(Refusal::NoLead);
     }
-    let started = Started {
-        paths: Paths { stops, hops },
-        starts,
-    };
-    let Some(first) = started.entry(a, link) else {
-        return Led::Refused(Refusal::NoLead);
-    };
-    let Some(second) = started.entry(b, link) else {
-        return Led::Refused(Refusal::NoLead);
-    };
-    Led::By(first.0 as i32 - second.0 as i32)
+    let JobLists { stops, hops, .. } = *lists;
+    let paths = Paths { stops, hops };
+    let started = Started { paths, starts };
+    let first = started.entry(a, link);
+    let second = started.entry(b, link);
+    difference(first, second)
+}
+
+// TEMPORARY
+fn wide(x: u16) -> usize
+    ensures { result ≡ x }
+{
+    usize::from(x)
 }

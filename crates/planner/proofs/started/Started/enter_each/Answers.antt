@@ -1,21 +1,25 @@
 -- Each turn enters a packet, and past the last none is left.
 use Rattle.std.proofs.Common.{arith}
 use Rattle.planner.proofs.EveryPacket.{each_ready, each_turn, each_added, each_counted}
-use Rattle.planner.proofs.enter_each.Goals as goal
+use Rattle.planner.proofs.started.Started.enter_each.Goals as goal
 
 pub enter-requires : goal.enter-requires
 enter-requires c =
-    each_ready c.requires.0 c.requires.1 c.loop-packet.invariant.1 c.loop-packet-test.true _ c.path.ensures c.requires.2 c.requires.3
+    let s = c.args.self.now in
+    each_ready s.paths.simple s.as_many c.loop-packet.invariant (omega (arith, s.as_many)) _ c.path.ensures s.in_time c.requires
 
 pub loop-packet-preserved : goal.loop-packet-preserved
-loop-packet-preserved c = (
-  omega arith,
-  each_turn c.requires.0 c.requires.1 c.loop-packet.invariant.1 c.loop-packet-test.true _ c.path.ensures
-      c.enter.auto.nexts c.enter.auto.steps c.enter.ensures.by_index c.enter.ensures.entries,
-)
+loop-packet-preserved c =
+    let s = c.args.self.now in
+    each_turn s.paths.simple s.as_many c.loop-packet.invariant (omega (arith, s.as_many)) _ c.path.ensures
+    c.enter.auto.nexts c.enter.auto.steps c.enter.ensures.by_index c.enter.ensures.entries
 
 pub returns-clause-by_index : goal.returns-clause-by_index
-returns-clause-by_index c = each_counted c.requires.0 c.requires.1 c.loop-packet.invariant.1 c.loop-packet-test.false c.loop-packet.invariant.0
+returns-clause-by_index c =
+    let s = c.args.self.now in
+    each_counted s.paths.simple s.as_many c.loop-packet.invariant (omega (arith, s.as_many)) (omega (arith, s.as_many))
 
 pub returns-clause-entries : goal.returns-clause-entries
-returns-clause-entries c = each_added c.requires.0 c.requires.1 c.loop-packet.invariant.1 c.loop-packet-test.false c.loop-packet.invariant.0
+returns-clause-entries c =
+    let s = c.args.self.now in
+    each_added s.paths.simple s.as_many c.loop-packet.invariant (omega (arith, s.as_many)) (omega (arith, s.as_many))

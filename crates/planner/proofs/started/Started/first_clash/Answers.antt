@@ -1,24 +1,19 @@
 -- The first hop that enters its link again shows the clash, and where there is none all is clear.
-use Rattle.std.proofs.Common.{ap, ◌∙◌, arith}
-use mathlib.Core.Option.{Option}
-use Rattle.rules.specs.Outcome.{Outcome, is}
-use Rattle.rules.specs.Check.{Clash}
-use Rattle.planner.specs.Told.{checked_of}
-use Rattle.planner.proofs.Clashing.{checked-clear_or}
-use Rattle.planner.proofs.EveryPacket.{begin_end}
+use Rattle.std.proofs.Common.{◌∙◌, arith}
 use Rattle.planner.proofs.ClashFound.{nothing-found, clash_found}
-use Rattle.planner.proofs.first_clash.Goals as goal
+use Rattle.planner.proofs.started.Started.first_clash.Goals as goal
 
-pub returns-then-hop-hops : goal.returns-then-hop-hops
-returns-then-hop-hops c =
-    ap {B = Outcome (Option Clash)} is (nothing-found _ _ _ c.requires.0 c.requires.1 _ c.first_conflict-hop.ensures c.if-hop-hops.true)
+pub returns-then-hop-self : goal.returns-then-hop-self
+returns-then-hop-self c =
+    let s = c.args.self.now in
+    nothing-found _ _ _ s.paths.simple s.as_many _ c.first_conflict-hop.ensures c.if-hop-self.true
 
 pub packet_of-later-requires : goal.packet_of-later-requires
-packet_of-later-requires c = omega (arith, c.first_conflict-hop.ensures.within, c.if-hop-hops.false, begin_end _ _ c.requires.0)
+packet_of-later-requires c = omega (arith, c.first_conflict-hop.ensures.within, c.if-hop-self.false)
 
 pub returns : goal.returns
 returns c =
-    ap checked_of c.clash_at.ensures ∙ checked-clear_or _
-    ∙ ap {B = Outcome (Option Clash)} is
-    (clash_found _ _ _ c.requires.0 c.requires.1 _ c.first_conflict-hop.ensures _ _ _ c.packet_of-later.ensures
-    c.begin-from.ensures c.of-step.ensures)
+    let s = c.args.self.now in
+    c.clash_at.ensures
+    ∙ clash_found _ _ _ s.paths.simple s.as_many _ c.first_conflict-hop.ensures _ _ _ c.packet_of-later.ensures
+    c.begin-from.ensures c.of-step.ensures

@@ -1,19 +1,21 @@
 -- Each turn asks the next packet, and past the last there is no holder.
 use Rattle.std.proofs.Common.{sym, ◌∙◌, arith}
 use Rattle.planner.proofs.Clashing.{holder-here, holder_later, holder_nowhere}
-use Rattle.planner.proofs.holder.Goals as goal
+use Rattle.planner.proofs.started.Started.holder.Goals as goal
 
-pub returns-then-packet_enters : goal.returns-then-packet_enters
-returns-then-packet_enters c =
-    sym (c.loop-j.invariant.1
-    ∙ holder-here _ _ _ _ c.requires.1 c.requires.2 _ _ _ c.loop-j-test.true (sym c.packet_enters.ensures ∙ c.if-packet_enters.true))
+pub returns-then-enters : goal.returns-then-enters
+returns-then-enters c =
+    let s = c.args.self.now in
+    sym (c.loop-j.invariant
+    ∙ holder-here _ _ _ _ (omega (arith, s.as_many)) c.requires _ _ _ (omega arith) (sym c.enters.ensures ∙ c.if-enters.true))
 
 pub loop-j-preserved : goal.loop-j-preserved
-loop-j-preserved c = (
-  omega arith,
-  c.loop-j.invariant.1
-      ∙ holder_later _ _ _ _ c.requires.1 c.requires.2 _ _ _ c.loop-j-test.true (sym c.packet_enters.ensures ∙ c.if-packet_enters.false),
-)
+loop-j-preserved c =
+    let s = c.args.self.now in
+    c.loop-j.invariant
+    ∙ holder_later _ _ _ _ (omega (arith, s.as_many)) c.requires _ _ _ (omega arith) (sym c.enters.ensures ∙ c.if-enters.false)
 
 pub returns : goal.returns
-returns c = sym (c.loop-j.invariant.1 ∙ holder_nowhere _ _ _ _ c.requires.1 c.requires.2 _ _ _ c.loop-j-test.false)
+returns c =
+    let s = c.args.self.now in
+    sym (c.loop-j.invariant ∙ holder_nowhere _ _ _ _ (omega (arith, s.as_many)) c.requires _ _ _ (omega arith))
