@@ -1,12 +1,13 @@
 // Start steps: the greedy plan of a job, the check of starts made elsewhere, and the lead of one packet over another.
 #![tactic(auto)]
 
-ghost use Rattle.std.specs.Prelude.{◌≡◌, ◌++◌, ◌*◌, ◌≤◌, ◌<◌, length, drop};
+ghost use Rattle.std.specs.Prelude.{◌≡◌, ◌++◌, ◌*◌, ◌≤◌, ◌<◌, length, drop, IfOk};
 ghost use Rattle.rules.specs.Sizes.{hops_most};
 ghost use Rattle.rules.specs.Claims.{place, takes};
 ghost use Rattle.rules.specs.Lead.{lead_of};
-ghost use Rattle.rules.specs.Answers.{planned, checked, led};
+ghost use Rattle.rules.specs.Answers.{started_verdict, planned, checked, led};
 ghost use Rattle.job.specs.Lists.{job_in};
+ghost use Rattle.job.specs.Told.{outcome_of};
 ghost use Rattle.planner.specs.Told.{entered_of, checked_of, led_of, PlannedAs, Near};
 ghost use Rattle.planner.specs.PacketsInLists.{path_claims, greedy_starts};
 ghost use Rattle.planner.specs.Entries.{EntriesBefore};
@@ -122,29 +123,35 @@ pub fn plan(lists: &JobLists, starts: &mut [u16]) -> Result<(), Refusal>
     Ok(())
 }
 
-// Whether starts made elsewhere keep all packets apart, and else the clash that is shown.
-pub fn check(lists: &JobLists, starts: &[u16]) -> Result<Option<Clash>, Refusal>
-    ensures { checked_of result ≡ checked (job_in lists.now) starts.now }
+// The packets of a job with starts made elsewhere, where both are accepted.
+fn accepted<'a>(lists: &JobLists<'a>, starts: &'a [u16]) -> Result<Started<'a>, Refusal>
+    ensures verdict { outcome_of (λ packets. tt) result ≡ started_verdict (job_in lists.now) starts.now }
+    ensures packets { IfOk result (λ packets. (packets.paths.stops.now ≡ lists.now.stops.now) × (packets.paths.hops.now ≡ lists.now.hops.now)
+        × (packets.starts.now ≡ starts.now)) }
 {
     lists.started(starts)?;
     let JobLists { stops, hops, .. } = *lists;
     let paths = Paths { stops, hops };
-    Ok(Started { paths, starts }.first_clash())
+    Ok(Started { paths, starts })
+}
+
+// Whether starts made elsewhere keep all packets apart, and else the clash that is shown.
+pub fn check(lists: &JobLists, starts: &[u16]) -> Result<Option<Clash>, Refusal>
+    ensures { checked_of result ≡ checked (job_in lists.now) starts.now }
+{
+    Ok(accepted(lists, starts)?.first_clash())
 }
 
 // How far packet a is behind packet b on the link: negative where it is ahead.
 pub fn lead(lists: &JobLists, starts: &[u16], a: u16, b: u16, link: u16) -> Result<i32, Refusal>
     ensures { led_of result ≡ led (job_in lists.now) starts.now a b link }
 {
-    lists.started(starts)?;
+    let packets = accepted(lists, starts)?;
     if a == b {
         return Err(Refusal::NoLead);
     }
-    let JobLists { stops, hops, .. } = *lists;
-    let paths = Paths { stops, hops };
-    let started = Started { paths, starts };
-    let first = started.entry(a, link);
-    let second = started.entry(b, link);
+    let first = packets.entry(a, link);
+    let second = packets.entry(b, link);
     difference(first, second)
 }
 

@@ -22,9 +22,9 @@ use job::{Hop, Job, Step};
 const STEP_WORDS: usize = 65535 / 64 + 1;
 
 #[derive(Clone, Copy)]
-pub(crate) struct Started<'p, 's> {
-    pub(crate) paths: Paths<'p>,
-    pub(crate) starts: &'s [u16],
+pub(crate) struct Started<'a> {
+    pub(crate) paths: Paths<'a>,
+    pub(crate) starts: &'a [u16],
     ghost as_many: { length starts.now ≡ length paths.stops.now },
     ghost few: { length starts.now ≤ packets_most },
     ghost in_time: { InTime starts.now },
@@ -37,7 +37,7 @@ fn hop_of(path: &[u16], link: u16) -> Option<usize>
     path.iter().position(|on| *on == link)
 }
 
-impl Started<'_, '_> {
+impl Started<'_> {
     ghost use Rattle.planner.specs.StartedPackets.{paths_in, packets_in, before_in};
 
     // Whether packet j enters the link in the step.
@@ -64,12 +64,7 @@ impl Started<'_, '_> {
         requires { k ≤ length self.now.starts.now }
         ensures { held_by result ≡ holder_of 0 (before_in self.now k) link step.0 }
     {
-        for j in 0..k {
-            if self.enters(j, link, step) {
-                return Some(j as u16);
-            }
-        }
-        None
+        (0..k as u16).find(|j| self.enters(usize::from(*j), link, step))
     }
 
     // The clash of packet k on the link in the step, where one listed before it has it.
@@ -79,8 +74,9 @@ impl Started<'_, '_> {
             (holder_of 0 (before_in self.now k) link step.0) }
     {
         let earlier = self.holder(k, link, step)?;
+        let later = k as u16;
         Some(Clash {
-            later: k as u16,
+            later,
             earlier,
             link,
             step,
