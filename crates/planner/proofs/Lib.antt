@@ -13,6 +13,7 @@ pub mod EveryPacket
 pub mod ClashFound
 pub mod EntrySteps
 pub mod Planning
+pub mod TextPlanned
 pub mod Differences
 pub mod CheckAndLead
 pub mod OneAnswer

@@ -6,9 +6,11 @@ use Rattle.rules.specs.Outcome.{Outcome, is, fine, onward}
 use Rattle.rules.specs.Greedy.{greedy}
 use Rattle.rules.specs.Check.{Clash as RuledClash}
 use Rattle.rules.specs.Answers.{lent_after}
+use Rattle.job.specs.declared.Job.{Job as Counts}
 use Rattle.job.specs.declared.Refusal.{Refusal}
 use Rattle.job.specs.declared.Step.{Step}
 use Rattle.job.specs.Told.{outcome_of, verdict_of}
+use Rattle.job_text.specs.Told.{Lists, ReadAs}
 use Rattle.planner.specs.declared.Clash.{Clash}
 
 -- an option of the code, as the rules have it
@@ -41,3 +43,8 @@ Near entered = MatchOption entered ⊤ (λ step. step.0 < 2147483648)
 pub record PlannedAs (answer : Outcome (List ℕ)) (told : Result Unit Refusal) (lent after : List ℕ) : Type 0 where
   pub verdict : verdict_of told ≡ onward answer (λ starts. fine)
   pub list : after ≡ lent_after answer lent
+
+-- the reader's answer and its five lists afterwards, and the list lent for the starts: the greedy ones of the job that was read
+pub record ReadAndPlannedAs (outcome : Outcome Job) (told : Result Counts Refusal) (lent after : Lists) (starts starts_after : List ℕ) : Type 0 where
+  pub read : ReadAs outcome told lent after
+  pub planned : starts_after ≡ lent_after (onward outcome (λ j. is (greedy j))) starts

@@ -13,6 +13,7 @@ ghost use Rattle.planner.specs.PacketsInLists.{path_claims, greedy_starts};
 ghost use Rattle.planner.specs.Entries.{EntriesBefore};
 
 mod entries;
+pub mod from_text;
 mod paths;
 mod repeats;
 mod started;
