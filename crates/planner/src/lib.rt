@@ -256,7 +256,7 @@ fn enter_each(stops: &[u16], hops: &[u16], starts: &[u16], nexts: &mut [u16], st
 }
 
 // The first hop, in list order, that enters its link in a step in which a hop before it does, by way of the entries in the rooms that
-// are lent; the number of hops, where none does.
+// are lent, if one does.
 fn conflict_among(
     links: usize,
     stops: &[u16],
@@ -266,7 +266,7 @@ fn conflict_among(
     nexts: &mut [u16],
     steps: &mut [u16],
     words: &mut [u64],
-) -> usize
+) -> Option<usize>
     requires { SimplePaths stops.now hops.now × (length starts.now ≡ length stops.now) × InTime starts.now
         × EntriesBefore stops.now hops.now starts.now 0 firsts.old nexts.old steps.old
         × OnLinks links hops.now × (widest < 64 * length words.old) × (words.old ≡ unmarked (length words.old)) }
@@ -277,7 +277,7 @@ fn conflict_among(
 }
 
 // The same, with rooms of its own.
-fn first_conflict(stops: &[u16], hops: &[u16], starts: &[u16]) -> usize
+fn first_conflict(stops: &[u16], hops: &[u16], starts: &[u16]) -> Option<usize>
     requires { SimplePaths stops.now hops.now × (length starts.now ≡ length stops.now) × InTime starts.now }
     ensures { FirstAgain hops.now (all_steps (packets stops.now hops.now starts.now)) result }
 {
@@ -304,10 +304,9 @@ fn first_clash(stops: &[u16], hops: &[u16], starts: &[u16]) -> Checked
         × InTime starts.now }
     ensures { checked_of result ≡ is (clash_after [] (packets stops.now hops.now starts.now)) }
 {
-    let hop = first_conflict(stops, hops, starts);
-    if hop == hops.len() {
+    let Some(hop) = first_conflict(stops, hops, starts) else {
         return Checked::Clear;
-    }
+    };
     let later = packet_of(stops, hop);
     let from = begin(stops, later);
     let step = Step::of(starts[later], Hop((hop - from) as u16));
