@@ -135,11 +135,14 @@ pub fn first_unmarked(words: &[u64]) -> usize
     ensures { FirstUnmarked words.now result }
 {
     let looked = &words[..words.len().min(WORDS)];
-    for (at, &word) in looked.iter().enumerate() {
-        if word != u64::MAX {
-            // std has no `usize::from` for 32 bits
-            return 64 * at + word.trailing_ones() as usize;
+    // the answer comes out by a `break`, as document 01 wants of a search
+    'words: {
+        for (at, &word) in looked.iter().enumerate() {
+            if word != u64::MAX {
+                // std has no `usize::from` for 32 bits
+                break 'words 64 * at + word.trailing_ones() as usize;
+            }
         }
+        64 * looked.len()
     }
-    64 * looked.len()
 }

@@ -7,8 +7,8 @@ use Rattle.marks.proofs.first_unmarked.Goals as goal
 pub loop-at-preserved : goal.loop-at-preserved
 loop-at-preserved c = full_word _ _ c.loop-at.invariant (sym (looked_at _ _ _ c.loop-at-test.true) ∙ c.if-word.false)
 
-pub returns : goal.returns
-returns c =
+pub returns-after-loop-at : goal.returns-after-loop-at
+returns-after-loop-at c =
     let looked = length-take c.min.result c.args.words.now in
     let all : length (take c.min.result c.args.words.now) ≡ c.loop-at.at = omega arith in
     rw all (first_past_words _ _ c.loop-at.invariant (omega arith) (λ l. omega arith))
