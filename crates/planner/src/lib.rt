@@ -155,10 +155,3 @@ pub fn lead(lists: &JobLists, starts: &[u16], a: u16, b: u16, link: u16) -> Resu
     let second = packets.entry(b, link);
     difference(first, second)
 }
-
-// TEMPORARY
-fn wide(x: u16) -> usize
-    ensures { result ≡ x }
-{
-    usize::from(x)
-}

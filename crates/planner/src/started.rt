@@ -101,7 +101,7 @@ impl Started<'_> {
     }
 
     // The first hop, in list order, that enters its link in a step in which a hop before it does, by way of the entries in the rooms that
-    // are lent; the number of hops, where none does.
+    // are lent, if one does.
     fn conflict_among(
         &self,
         links: usize,
@@ -109,7 +109,7 @@ impl Started<'_> {
         nexts: &mut [u16],
         steps: &mut [u16],
         words: &mut [u64],
-    ) -> usize
+    ) -> Option<usize>
         requires { EntriesBefore self.now.paths.stops.now self.now.paths.hops.now self.now.starts.now 0 firsts.old nexts.old steps.old
             × OnLinks links self.now.paths.hops.now × (widest < 64 * length words.old) × (words.old ≡ unmarked (length words.old)) }
         ensures { FirstAgain self.now.paths.hops.now (all_steps (packets_in self.now)) result }
@@ -119,7 +119,7 @@ impl Started<'_> {
     }
 
     // The same, with rooms of its own.
-    fn first_conflict(&self) -> usize
+    fn first_conflict(&self) -> Option<usize>
         ensures { FirstAgain self.now.paths.hops.now (all_steps (packets_in self.now)) result }
     {
         let mut firsts = [0u16; Job::LINKS];
@@ -134,10 +134,7 @@ impl Started<'_> {
     pub(crate) fn first_clash(&self) -> Option<Clash>
         ensures { found_of result ≡ clash_after [] (packets_in self.now) }
     {
-        let hop = self.first_conflict();
-        if hop == self.paths.hops.len() {
-            return None;
-        }
+        let hop = self.first_conflict()?;
         let later = self.paths.packet_of(hop);
         let from = self.paths.begin(later);
         let step = Step::of(self.starts[later], Hop((hop - from) as u16));
