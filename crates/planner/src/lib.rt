@@ -55,13 +55,7 @@ fn start_each(
         let path = paths.path(k);
         // no start lies further than there are hops before it
         let enough = paths.begin(k) / 64 + 1;
-        let start = search(
-            path,
-            firsts,
-            &nexts[..],
-            &steps[..],
-            &mut words[0..enough],
-        ) as u16;
+        let start = search(path, firsts, &nexts[..], &steps[..], &mut words[0..enough]) as u16;
         starts[k] = start;
         enter(path, start, &mut nexts[..], &mut steps[..]);
     }
@@ -77,14 +71,7 @@ pub(crate) fn fill(paths: &Paths, starts: &mut [u16])
     let mut steps = [0u16; Job::HOPS];
     let mut words = [0u64; WORDS];
     make_room(paths.hops, &mut firsts, &mut nexts);
-    start_each(
-        paths,
-        starts,
-        &firsts,
-        &mut nexts,
-        &mut steps,
-        &mut words,
-    );
+    start_each(paths, starts, &firsts, &mut nexts, &mut steps, &mut words);
 }
 
 // The difference of two entry steps, where both packets enter. Document 01 names this form: the steps as i32, one less the other.

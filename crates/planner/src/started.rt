@@ -34,7 +34,7 @@ pub(crate) struct Started<'a> {
 fn hop_of(path: &[u16], link: u16) -> Option<usize>
     ensures { result ≡ position (λ l. l == link) path.now }
 {
-    path.iter().position(|on| *on == link)
+    path.iter().position(|&on| on == link)
 }
 
 impl Started<'_> {
@@ -64,14 +64,13 @@ impl Started<'_> {
         requires { k ≤ length self.now.starts.now }
         ensures { held_by result ≡ holder_of 0 (before_in self.now k) link step.0 }
     {
-        (0..k as u16).find(|j| self.enters(usize::from(*j), link, step))
+        (0..k as u16).find(|&j| self.enters(usize::from(j), link, step))
     }
 
     // The clash of packet k on the link in the step, where one listed before it has it.
     fn clash_at(&self, k: usize, link: u16, step: Step) -> Option<Clash>
         requires { k ≤ length self.now.starts.now }
-        ensures { found_of result ≡ clash_with k link step.0
-            (holder_of 0 (before_in self.now k) link step.0) }
+        ensures { found_of result ≡ clash_with k link step.0 (holder_of 0 (before_in self.now k) link step.0) }
     {
         let earlier = self.holder(k, link, step)?;
         let later = k as u16;
@@ -90,10 +89,10 @@ impl Started<'_> {
         ensures entries { EntriesAdded self.now.paths.hops.now (all_steps (packets_in self.now))
             nexts.old steps.old nexts.new steps.new }
     {
-        for (packet, start) in self.starts.iter().enumerate() {
+        for (packet, &start) in self.starts.iter().enumerate() {
             enter(
                 self.paths.path(packet),
-                *start,
+                start,
                 &mut nexts[..],
                 &mut steps[..],
             );
