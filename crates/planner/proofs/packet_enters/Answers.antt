@@ -1,7 +1,0 @@
--- Its path is the one that `path` hands out.
-use Rattle.planner.specs.PacketsInLists.{packet_enters}
-use Rattle.planner.proofs.packet_enters.Goals as goal
-
-pub returns : goal.returns
-unfolding packet_enters
-returns c = rw (← c.path.ensures) c.enters.ensures
