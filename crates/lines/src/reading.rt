@@ -15,8 +15,6 @@ const NINE: u8 = 57;
 
 const NUMBER_MOST: u32 = 65535;
 
-const LINE_MOST: u32 = 4294967295;
-
 // Where a line begins, and its number.
 #[derive(Clone, Copy, Debug, PartialEq, Eq)]
 pub struct Lines {
@@ -28,7 +26,7 @@ pub struct Lines {
 fn line_after(line: u32) -> u32
     ensures { result ≡ line_after line }
 {
-    if line < LINE_MOST { line + 1 } else { line }
+    line.saturating_add(1)
 }
 
 impl Lines {
@@ -68,27 +66,16 @@ pub enum Absent {
 pub fn begins_at(text: &[u8], at: usize, byte: u8) -> bool
     ensures { result ≡ begins byte (drop at text.now) }
 {
-    if at < text.len() {
-        text[at] == byte
-    } else {
-        false
-    }
+    text.get(at) == Some(&byte)
 }
 
 // The byte at a place, if a tab stands behind it.
 pub fn letter_at(text: &[u8], at: usize) -> Option<u8>
     ensures { result ≡ letter_of (drop at text.now) }
 {
-    if at >= text.len() {
-        return None;
-    }
-    if text.len() - at < 2 {
-        return None;
-    }
-    if text[at + 1] == TAB {
-        Some(text[at])
-    } else {
-        None
+    match text.get(at..) {
+        Some([letter, TAB, ..]) => Some(*letter),
+        _ => None,
     }
 }
 
@@ -96,11 +83,8 @@ pub fn letter_at(text: &[u8], at: usize) -> Option<u8>
 fn ends_at(text: &[u8], at: usize) -> bool
     ensures { result ≡ ends_here (drop at text.now) }
 {
-    if at >= text.len() {
-        return true;
-    }
-    let byte = text[at];
-    byte == TAB || byte == LINE_FEED
+    text.get(at)
+        .is_none_or(|&byte| byte == TAB || byte == LINE_FEED)
 }
 
 // The number of the field that begins at a place of a text, and where the field ends. The first digit is read by itself, so that the loop
@@ -147,16 +131,14 @@ fn number_at(text: &[u8], begin: usize) -> Result<Number, Absent>
 }
 
 // The field behind one that ends at a place of a text, in the same line.
+#[tactic(auto, using(crate::proofs::BehindPlaces::told_behind))]
 pub fn field_behind(text: &[u8], at: usize) -> Result<Number, Absent>
     ensures { result ≡ first_field (fields_behind text.now at) at }
 {
-    if at >= text.len() {
-        return Err(Absent::NoField);
+    match text.get(at) {
+        None | Some(&LINE_FEED) => Err(Absent::NoField),
+        Some(_) => number_at(text, at + 1),
     }
-    if text[at] == LINE_FEED {
-        return Err(Absent::NoField);
-    }
-    number_at(text, at + 1)
 }
 
 // How many numbers stand behind a place, and where their line ends.
