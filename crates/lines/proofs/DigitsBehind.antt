@@ -9,7 +9,8 @@ use native.Mathlib.Decide.{dec_lt}
 use native.Mathlib.Omega.{arith}
 use borrow.Author.Tests.{ne_eqb}
 use lib.Dec.{eqb}
-use lib.ListN.{length, get_or, drop, drop_of_length-le}
+use lib.ListN.{length, get_or, take, drop, length-take, length-drop, drop_of_length-le}
+use Rattle.std.proofs.lemmas.List.{get_or-take, get_or-drop}
 use Rattle.counting.specs.Count.{pick}
 use Rattle.counting.proofs.Places.{from_place}
 use Rattle.rules.specs.Sizes.{number_most}
@@ -113,13 +114,13 @@ module _ {text : List ℕ} {begin value i : ℕ} (r : Digits text begin value i)
       pub digits_over : number_most < more → field_at text begin ≡ Err NoNumber
       digits_over o = no_number (rw (digit_open text i h l) (value_over here 0 value (omega arith) l m o))
 
-      pub digits_turn : more ≤ number_most → Digits text begin more (i + 1)
-      digits_turn o = record {
-        small = o;
+      pub digits_turn : {next : ℕ} → next ≡ more → next ≤ number_most → Digits text begin next (i + 1)
+      digits_turn e o = rw e (record {
+        small = omega arith;
         from = let f = r.from in omega arith;
         ahead = r.ahead ∙ rw (digit_open text i h l) (omega arith);
-        worth = r.worth ∙ rw (digit_open text i h l) (value_on here 0 value (omega arith) l m o);
-      }
+        worth = r.worth ∙ rw (digit_open text i h l) (value_on here 0 value (omega arith) l m (omega arith));
+      })
 
   -- the field ends at this place
   module _ (e : ends_here (drop i text) ≡ true) where
@@ -171,5 +172,16 @@ module _ (text : List ℕ) (begin : ℕ) where
     pub first_high : 57 < get_or text begin 0 → field_at text begin ≡ Err NoNumber
     first_high m = digits_high start h l m
 
-    pub first_digit : get_or text begin 0 ≤ 57 → Digits text begin (get_or text begin 0 - 48) (begin + 1)
-    first_digit m = let one : 0 * 10 + (get_or text begin 0 - 48) ≡ get_or text begin 0 - 48 = omega arith in rw one at (digits_turn start h l m (omega arith))
+    pub first_digit : get_or text begin 0 ≤ 57 → {value : ℕ} → value ≡ get_or text begin 0 - 48 → Digits text begin value (begin + 1)
+    first_digit m e = digits_turn start h l m (omega arith) (omega arith)
+
+-- ---- the bytes behind the first
+
+module _ (text : List ℕ) (begin k : ℕ) {i : ℕ} (e : i ≡ begin + 1 + k) (h : k < length (take (length text - (begin + 1)) (drop (begin + 1) text))) where
+  pub item_within : i < length text
+  item_within = omega (arith, length-take {A = ℕ}, length-drop {A = ℕ})
+
+  pub item_byte : get_or (take (length text - (begin + 1)) (drop (begin + 1) text)) k 0 ≡ get_or text i 0
+  item_byte = get_or-take (length text - (begin + 1)) (drop (begin + 1) text) k 0 (omega (arith, length-take {A = ℕ}, length-drop {A = ℕ})) ∙ rw e (get_or-drop (begin + 1) text k 0)
+
+pub ruleset digit_steps = (no_first, first_low, first_high, first_digit, digits_low, digits_high, digits_over, digits_turn, digits-zero, digits_done, item_within, item_byte)

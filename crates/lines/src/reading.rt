@@ -89,44 +89,40 @@ fn ends_at(text: &[u8], at: usize) -> bool
 
 // The number of the field that begins at a place of a text, and where the field ends. The first digit is read by itself, so that the loop
 // has nothing to tell apart.
+#[tactic(auto, using(crate::proofs::DigitsBehind::digit_steps))]
 fn number_at(text: &[u8], begin: usize) -> Result<Number, Absent>
     ensures { result ≡ field_at text.now begin }
 {
-    if begin >= text.len() {
+    let Some(&first) = text.get(begin) else {
+        return Err(Absent::NoNumber);
+    };
+    if !first.is_ascii_digit() {
         return Err(Absent::NoNumber);
     }
-    let first = text[begin];
-    if first < ZERO {
-        return Err(Absent::NoNumber);
-    }
-    if first > NINE {
-        return Err(Absent::NoNumber);
-    }
-    let mut value: u32 = (first - ZERO) as u32;
-    let mut i = begin + 1;
-    while i < text.len() {
-        let digit = text[i];
+    let mut value = u32::from(first - ZERO);
+    let mut end = begin + 1;
+    for &digit in &text[begin + 1..] {
         if digit < ZERO {
             break;
         }
         if digit > NINE {
             return Err(Absent::NoNumber);
         }
-        value = value * 10 + (digit - ZERO) as u32;
+        value = value * 10 + u32::from(digit - ZERO);
         if value > NUMBER_MOST {
             return Err(Absent::NoNumber);
         }
-        i += 1;
+        end += 1;
     }
-    if !ends_at(text, i) {
+    if !ends_at(text, end) {
         return Err(Absent::NoNumber);
     }
-    if i - begin > 1 && first == ZERO {
+    if end - begin > 1 && first == ZERO {
         return Err(Absent::NoNumber);
     }
     Ok(Number {
         value: value as u16,
-        end: i,
+        end,
     })
 }
 
