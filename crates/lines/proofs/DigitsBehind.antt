@@ -23,10 +23,10 @@ use Rattle.lines.proofs.Digits.{value_low, value_high, value_over, value_on, num
 
 -- ---- where a field ends
 
-pub ends_past : (text : List ℕ) (at : ℕ) → length text ≤ at → ends_here (drop at text) ≡ true
+ends_past : (text : List ℕ) (at : ℕ) → length text ≤ at → ends_here (drop at text) ≡ true
 ends_past text at h = rw (drop_of_length-le text h)
 
-pub ends_byte : (text : List ℕ) (at : ℕ) → at < length text → ends_here (drop at text) ≡ (eqb (get_or text at 0) tab || eqb (get_or text at 0) line_feed)
+ends_byte : (text : List ℕ) (at : ℕ) → at < length text → ends_here (drop at text) ≡ (eqb (get_or text at 0) tab || eqb (get_or text at 0) line_feed)
 ends_byte text at h = rw (from_place text at h)
 
 field-ended : (bs : List ℕ) → ends_here bs ≡ true → field_rest bs ≡ []
@@ -98,7 +98,7 @@ module _ {text : List ℕ} {begin value i : ℕ} (r : Digits text begin value i)
   no_number e = rw (valueless (field_rest (drop begin text)) (r.worth ∙ e))
 
   -- a byte below the digits that does not end the field
-  pub digits_low : ends_here (drop i text) ≡ false → ((i < length text) → byte < 48) → field_at text begin ≡ Err NoNumber
+  pub digits_low : ends_here (drop i text) ≡ false → (i < length text → byte < 48) → field_at text begin ≡ Err NoNumber
   digits_low e l =
       let h = open_within text i e in
       no_number (rw (field_open text i e h) (value_low (byte ∷ field_rest (drop (i + 1) text)) 0 value (omega arith) (l h)))
@@ -175,13 +175,4 @@ module _ (text : List ℕ) (begin : ℕ) where
     pub first_digit : get_or text begin 0 ≤ 57 → {value : ℕ} → value ≡ get_or text begin 0 - 48 → Digits text begin value (begin + 1)
     first_digit m e = digits_turn start h l m (omega arith) (omega arith)
 
--- ---- the bytes behind the first
-
-module _ (text : List ℕ) (begin k : ℕ) {i : ℕ} (e : i ≡ begin + 1 + k) (h : k < length (take (length text - (begin + 1)) (drop (begin + 1) text))) where
-  pub item_within : i < length text
-  item_within = omega (arith, length-take {A = ℕ}, length-drop {A = ℕ})
-
-  pub item_byte : get_or (take (length text - (begin + 1)) (drop (begin + 1) text)) k 0 ≡ get_or text i 0
-  item_byte = get_or-take (length text - (begin + 1)) (drop (begin + 1) text) k 0 (omega (arith, length-take {A = ℕ}, length-drop {A = ℕ})) ∙ rw e (get_or-drop (begin + 1) text k 0)
-
-pub ruleset digit_steps = (no_first, first_low, first_high, first_digit, digits_low, digits_high, digits_over, digits_turn, digits-zero, digits_done, item_within, item_byte)
+pub ruleset digit_steps = (no_first, first_low, first_high, digits_low, digits_high, digits_over, digits-zero, digits_done)

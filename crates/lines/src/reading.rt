@@ -1,5 +1,5 @@
 // Reading of text: the line cursor, the fields of a line, and the numbers that fields say. Each function answers at any place.
-ghost use Rattle.std.specs.Prelude.{◌≡◌, drop};
+ghost use Rattle.std.specs.Prelude.{◌≡◌, [], ◌∷◌, drop};
 ghost use Rattle.std.proofs.lemmas.List.Edits.{sets};
 ghost use Rattle.rules.specs.Bytes.{numbers_of, begins};
 ghost use Rattle.lines.specs.Cursor.{cursor_at, line_after, top_line};
@@ -88,7 +88,7 @@ fn ends_at(text: &[u8], at: usize) -> bool
 }
 
 // The number of the field that begins at a place of a text, and where the field ends. The first digit is read by itself, so that the loop
-// has nothing to tell apart.
+// has nothing to tell apart. The loop goes by index: over the bytes `&text[begin + 1..]` a path's numbers take half as long again.
 #[tactic(auto, using(crate::proofs::DigitsBehind::digit_steps))]
 fn number_at(text: &[u8], begin: usize) -> Result<Number, Absent>
     ensures { result ≡ field_at text.now begin }
@@ -100,9 +100,11 @@ fn number_at(text: &[u8], begin: usize) -> Result<Number, Absent>
         return Err(Absent::NoNumber);
     }
     let mut value = u32::from(first - ZERO);
-    let mut end = begin + 1;
-    for &digit in &text[begin + 1..] {
+    let mut end = text.len();
+    for i in begin + 1..text.len() {
+        let digit = text[i];
         if digit < ZERO {
+            end = i;
             break;
         }
         if digit > NINE {
@@ -112,7 +114,6 @@ fn number_at(text: &[u8], begin: usize) -> Result<Number, Absent>
         if value > NUMBER_MOST {
             return Err(Absent::NoNumber);
         }
-        end += 1;
     }
     if !ends_at(text, end) {
         return Err(Absent::NoNumber);
