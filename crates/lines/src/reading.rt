@@ -5,13 +5,13 @@ ghost use Rattle.rules.specs.Bytes.{numbers_of, begins};
 ghost use Rattle.lines.specs.Cursor.{cursor_at, line_after, top_line};
 ghost use Rattle.lines.specs.Behind.{letter_of, ends_here, field_at, first_field, fields_behind, line_end, copied, leading};
 
-const TAB: u8 = 9;
+const TAB: u8 = b'\t';
 
-const LINE_FEED: u8 = 10;
+const LINE_FEED: u8 = b'\n';
 
-const ZERO: u8 = 48;
+const ZERO: u8 = b'0';
 
-const NINE: u8 = 57;
+const NINE: u8 = b'9';
 
 const NUMBER_MOST: u32 = 65535;
 
@@ -156,11 +156,12 @@ pub fn copy_behind(text: &[u8], at: usize, list: &mut [u16], from: usize) -> Opt
     let mut next = from;
     loop {
         match field_behind(text, place) {
-            Ok(number) => {
+            Ok(Number { value, end }) => {
                 count += 1;
-                place = number.end;
+                place = end;
+                // not by `get_mut`: no proof knows what is written through it
                 if next < list.len() {
-                    list[next] = number.value;
+                    list[next] = value;
                     next += 1;
                 }
             }
