@@ -147,6 +147,7 @@ pub struct Copied {
 
 // Copies the numbers behind a place, up to a field that says none, into a list from a place on, as far as the list goes. None where a
 // field of the line says no number.
+#[tactic(auto, using(crate::proofs::CopyingNumbers::copied_here))]
 pub fn copy_behind(text: &[u8], at: usize, list: &mut [u16], from: usize) -> Option<Copied>
     ensures { (result ≡ copied (numbers_of (fields_behind text.now at)) (line_end text.now at))
         × (list.new ≡ sets list.old from (leading (fields_behind text.now at))) }

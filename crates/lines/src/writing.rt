@@ -21,6 +21,7 @@ fn byte(room: &mut [u8], at: usize, b: u8) -> usize
 }
 
 // Writes a number: the digits of its quotient by ten, then that of the remainder.
+#[tactic(auto, using(crate::proofs::Putting::number_steps))]
 fn number(room: &mut [u8], at: usize, n: u32) -> usize
     requires { at + 10 < 2 ^ 64 }
     ensures put { Put room.old at (decimal n) room.new result }
@@ -45,6 +46,7 @@ fn field(room: &mut [u8], at: usize, n: u32) -> usize
 }
 
 // Writes a line of a letter and numbers. Of one with too many numbers to tell where it ends nothing is written.
+#[tactic(auto, using(crate::proofs::Putting::line_steps))]
 pub fn line<const N: usize>(room: &mut [u8], at: u32, letter: u8, numbers: [u32; N]) -> usize
     ensures put { OnTrue (nat_lt N (2 ^ 32)) (Put room.old at (line_text letter numbers.entry) room.new result) }
     ensures near { result ≤ at + longest_line N }

@@ -1,7 +1,7 @@
--- What was to be counted and stored is what is left to be: a field that says a number takes it from there, and at any other none is left.
+-- What was to be counted and stored is what is left to be: a field that says a number takes it from there.
 use Rattle.std.proofs.Common.{sym, arith}
-use Rattle.lines.proofs.BehindPlaces.{said_behind_lem, unsaid_behind, none_behind}
-use Rattle.lines.proofs.CopyingNumbers.{copying_stored, copying_past, copied_none, copied_all}
+use Rattle.lines.proofs.BehindPlaces.{said_behind_lem}
+use Rattle.lines.proofs.CopyingNumbers.{copying_stored, copying_past}
 use Rattle.lines.proofs.reading.copy_behind.Goals as goal
 
 pub loop-value-smaller-then-next-list : goal.loop-value-smaller-then-next-list
@@ -15,9 +15,3 @@ loop-value-smaller c = let f = said_behind_lem _ _ (sym c.in-Ok.ensures) in omeg
 
 pub loop-value-preserved : goal.loop-value-preserved
 loop-value-preserved c = copying_past c.loop-value.invariant (said_behind_lem _ _ (sym c.in-Ok.ensures)) c.if-next-list.false
-
-pub returns-in-Err-NoNumber : goal.returns-in-Err-NoNumber
-returns-in-Err-NoNumber c = copied_none c.loop-value.invariant (unsaid_behind _ _ (sym (rw c.in-Err-NoNumber.field-0-is at c.in-Err-NoNumber.ensures)))
-
-pub returns-in-Err-NoField : goal.returns-in-Err-NoField
-returns-in-Err-NoField c = copied_all c.loop-value.invariant (none_behind _ _ (sym (rw c.in-Err-NoField.field-0-is at c.in-Err-NoField.ensures)))
