@@ -169,12 +169,17 @@ module _ (text : List ℕ) (at : ℕ) where
 
 -- what is told of the field behind a place
 module _ (text : List ℕ) (at : ℕ) where
-  pub told_none : NoneBehind text at → first_field (fields_behind text at) at ≡ Err NoField
-  told_none n = rw n.fields
+  pub told_end : length text ≤ at → first_field (fields_behind text at) at ≡ Err NoField
+  told_end h = rw (behind_end text at h).fields
 
-  pub told-field : at < length text → (get_or text at 0 ≡ line_feed → ⊥) → first_field (fields_behind text at) at ≡ field_at text (at + 1)
+  pub told_feed : at < length text → get_or text at 0 ≡ line_feed → first_field (fields_behind text at) at ≡ Err NoField
+  told_feed h f = rw (behind_feed text at h f).fields
+
+  pub told_field : at < length text → (get_or text at 0 ≡ line_feed → ⊥) → first_field (fields_behind text at) at ≡ field_at text (at + 1)
   unfolding field_at
-  told-field h n = rw (behind-field text at h n)
+  told_field h n = rw (behind-field text at h n)
+
+pub ruleset told_behind = (told_end, told_feed, told_field)
 
 -- each of the three answers on a field says what its number is
 said_some : (o : Option ℕ) (stop : ℕ) {n : Number} → said_up_to o stop ≡ Ok n → (o ≡ some n.value) × (stop ≡ n.end)

@@ -9,7 +9,8 @@ use native.Mathlib.Decide.{dec_lt}
 use native.Mathlib.Omega.{arith}
 use borrow.Author.Tests.{ne_eqb}
 use lib.Dec.{eqb}
-use lib.ListN.{length, get_or, drop, drop_of_length-le}
+use lib.ListN.{length, get_or, take, drop, length-take, length-drop, drop_of_length-le}
+use Rattle.std.proofs.lemmas.List.{get_or-take, get_or-drop}
 use Rattle.counting.specs.Count.{pick}
 use Rattle.counting.proofs.Places.{from_place}
 use Rattle.rules.specs.Sizes.{number_most}
@@ -22,10 +23,10 @@ use Rattle.lines.proofs.Digits.{value_low, value_high, value_over, value_on, num
 
 -- ---- where a field ends
 
-pub ends_past : (text : List ℕ) (at : ℕ) → length text ≤ at → ends_here (drop at text) ≡ true
+ends_past : (text : List ℕ) (at : ℕ) → length text ≤ at → ends_here (drop at text) ≡ true
 ends_past text at h = rw (drop_of_length-le text h)
 
-pub ends_byte : (text : List ℕ) (at : ℕ) → at < length text → ends_here (drop at text) ≡ (eqb (get_or text at 0) tab || eqb (get_or text at 0) line_feed)
+ends_byte : (text : List ℕ) (at : ℕ) → at < length text → ends_here (drop at text) ≡ (eqb (get_or text at 0) tab || eqb (get_or text at 0) line_feed)
 ends_byte text at h = rw (from_place text at h)
 
 field-ended : (bs : List ℕ) → ends_here bs ≡ true → field_rest bs ≡ []
@@ -97,7 +98,7 @@ module _ {text : List ℕ} {begin value i : ℕ} (r : Digits text begin value i)
   no_number e = rw (valueless (field_rest (drop begin text)) (r.worth ∙ e))
 
   -- a byte below the digits that does not end the field
-  pub digits_low : ends_here (drop i text) ≡ false → ((i < length text) → byte < 48) → field_at text begin ≡ Err NoNumber
+  pub digits_low : ends_here (drop i text) ≡ false → (i < length text → byte < 48) → field_at text begin ≡ Err NoNumber
   digits_low e l =
       let h = open_within text i e in
       no_number (rw (field_open text i e h) (value_low (byte ∷ field_rest (drop (i + 1) text)) 0 value (omega arith) (l h)))
@@ -113,13 +114,13 @@ module _ {text : List ℕ} {begin value i : ℕ} (r : Digits text begin value i)
       pub digits_over : number_most < more → field_at text begin ≡ Err NoNumber
       digits_over o = no_number (rw (digit_open text i h l) (value_over here 0 value (omega arith) l m o))
 
-      pub digits_turn : more ≤ number_most → Digits text begin more (i + 1)
-      digits_turn o = record {
-        small = o;
+      pub digits_turn : {next : ℕ} → next ≡ more → next ≤ number_most → Digits text begin next (i + 1)
+      digits_turn e o = rw e (record {
+        small = omega arith;
         from = let f = r.from in omega arith;
         ahead = r.ahead ∙ rw (digit_open text i h l) (omega arith);
-        worth = r.worth ∙ rw (digit_open text i h l) (value_on here 0 value (omega arith) l m o);
-      }
+        worth = r.worth ∙ rw (digit_open text i h l) (value_on here 0 value (omega arith) l m (omega arith));
+      })
 
   -- the field ends at this place
   module _ (e : ends_here (drop i text) ≡ true) where
@@ -171,5 +172,7 @@ module _ (text : List ℕ) (begin : ℕ) where
     pub first_high : 57 < get_or text begin 0 → field_at text begin ≡ Err NoNumber
     first_high m = digits_high start h l m
 
-    pub first_digit : get_or text begin 0 ≤ 57 → Digits text begin (get_or text begin 0 - 48) (begin + 1)
-    first_digit m = let one : 0 * 10 + (get_or text begin 0 - 48) ≡ get_or text begin 0 - 48 = omega arith in rw one at (digits_turn start h l m (omega arith))
+    pub first_digit : get_or text begin 0 ≤ 57 → {value : ℕ} → value ≡ get_or text begin 0 - 48 → Digits text begin value (begin + 1)
+    first_digit m e = digits_turn start h l m (omega arith) (omega arith)
+
+pub ruleset digit_steps = (no_first, first_low, first_high, digits_low, digits_high, digits_over, digits-zero, digits_done)
