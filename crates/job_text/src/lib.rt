@@ -261,7 +261,7 @@ fn counted(job: Job, told: Line) -> Job
     }
 }
 
-// The lines from a cursor on.
+// The lines from a cursor on, which goes from line to line by `moved`: document 01 names this form.
 fn add_lines(text: &[u8], first: Lines, begun: Job, lists: &mut LentLists) -> Result<Job, Refusal>
     requires within { Within begun }
     requires room { Room (lists_in lists.old) }
@@ -291,10 +291,7 @@ fn first_line(told: Line) -> Result<Job, Refusal>
     let Line::Nodes(nodes) = told else {
         return Err(Refusal::BadForm(1));
     };
-    if nodes < 1 {
-        return Err(Refusal::Size(1));
-    }
-    if usize::from(nodes) > Job::NODES {
+    if nodes < 1 || usize::from(nodes) > Job::NODES {
         return Err(Refusal::Size(1));
     }
     Ok(Job {
@@ -329,6 +326,14 @@ fn clear(list: &mut [u16], from: usize)
     list[kept..].fill(0);
 }
 
+// The counts of what stays of a text that is refused.
+const NOTHING: Job = Job {
+    nodes: 0,
+    links: 0,
+    packets: 0,
+    hops: 0,
+};
+
 // The text, in lists that have room. Nothing stays in them of a text that is refused.
 fn fill(text: &[u8], lists: &mut LentLists) -> Result<Job, Refusal>
     requires short { length text.now ≤ text_most }
@@ -354,11 +359,3 @@ pub fn read(text: &[u8], lists: &mut LentLists) -> Result<Job, Refusal>
     }
     fill(text, lists)
 }
-
-// The counts of what stays of a text that is refused.
-const NOTHING: Job = Job {
-    nodes: 0,
-    links: 0,
-    packets: 0,
-    hops: 0,
-};
