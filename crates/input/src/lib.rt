@@ -1,7 +1,7 @@
 // What the programs read, all of it or as much as a list has places for, and how they tell what failed.
 #![tactic(auto)]
 
-ghost use Rattle.std.specs.Prelude.{◌<◌, ◌≤◌, ℕ, List, ◌++◌, codes, length, take, IfOk, OnOk};
+ghost use Rattle.std.specs.Prelude.{◌≡◌, ◌<◌, ◌≤◌, ℕ, List, ◌++◌, codes, length, take, IfOk, OnOk};
 ghost use Rattle.std.specs.Io.KnownBytes.{Appends, Consumes, IsAtEnd};
 ghost use Rattle.input.specs.Told.{bytes_read};
 
@@ -13,6 +13,15 @@ use std::{io, str};
 pub struct Unread {
     pub bytes: usize,
     pub error: io::Error,
+}
+
+// For a caller to whom what was read before a failure is nothing.
+impl From<Unread> for io::Error {
+    ghost from_gives = { λ unread error. error ≡ unread.error };
+
+    fn from(unread: Unread) -> io::Error {
+        unread.error
+    }
 }
 
 // Reads into the lent list, until it is full or the input ends, and says how many bytes that were, also where a read failed. There are never more
