@@ -1,16 +1,12 @@
 -- What the code answers is fixed by what the rules say of it: no two refusals share number and place, so a contract of the
--- form `verdict_of r ≡ ..` has one outcome.
-use mathlib.Core.Path.{◌≡◌, refl, sym, ap, ◌∙◌}
-use mathlib.Core.Bool.{false}
-use Prim.Native.Nat.{ℕ}
+-- form `outcome_of f r ≡ ..` has one outcome.
+use Rattle.std.proofs.Common.{◌≡◌, ℕ, false, Result, Ok, Err, refl, sym, ap, ◌∙◌}
 use lib.Dec.{eqb}
 use Rattle.counting.specs.Count.{pick}
-use Rattle.rules.specs.Outcome.{is, refused, Verdict as Ruled}
+use Rattle.rules.specs.Outcome.{Outcome, is, refused}
 use Rattle.job.specs.declared.Refusal.{Refusal}
 use Rattle.job.specs.declared.Refusal.TheVariants.{TextTooLong, BadForm, Size, NoNode, SelfLink, NoLink, NotLeaving, Revisited, Disagree, ShortRoom, StartCount, LateStart, NoLead, NotFollowing, NoHops}
-use Rattle.job.specs.declared.Verdict.{Verdict}
-use Rattle.job.specs.declared.Verdict.TheVariants.{Fine, Refused}
-use Rattle.job.specs.Told.{number_place, verdict_of}
+use Rattle.job.specs.Told.{number_place, outcome_of, verdict_of}
 
 -- the refusal with a number and a place
 abbrev pub numbered : (number place : ℕ) → Refusal
@@ -65,14 +61,21 @@ number_not_zero NoLead = refl
 number_not_zero (NotFollowing p) = refl
 number_not_zero (NoHops p) = refl
 
--- the verdict that the rules' verdict is told as
-abbrev told : Ruled → Verdict
-told (is u) = Fine
-told (refused number place) = Refused (numbered number place)
+-- what an outcome says: its value, or the refusal with its number and place
+abbrev value_in : {B : Type 0} → B → Outcome B → B
+value_in b (is c) = c
+value_in b (refused number place) = b
 
-told_verdict : (v : Verdict) → told (verdict_of v) ≡ v
-told_verdict Fine = refl
-told_verdict (Refused r) = ap Refused (numbered_refusal r)
+abbrev refusal_in : {B : Type 0} → Outcome B → Refusal
+refusal_in (is b) = Disagree
+refusal_in (refused number place) = numbered number place
 
-pub verdict_injective : (v w : Verdict) → verdict_of v ≡ verdict_of w → v ≡ w
-verdict_injective v w e = sym (told_verdict v) ∙ ap told e ∙ told_verdict w
+-- an outcome is of one value at most, if f tells values apart, and of one refusal
+pub outcome_injective : {A B : Type 0} (f : A → B) → ((a b : A) → f a ≡ f b → a ≡ b) → (v w : Result A Refusal) → outcome_of f v ≡ outcome_of f w → v ≡ w
+outcome_injective f apart (Ok a) (Ok b) e = ap Ok (apart a b (ap (value_in (f a)) e))
+outcome_injective f apart (Ok a) (Err r) e = cc
+outcome_injective f apart (Err r) (Ok b) e = cc
+outcome_injective f apart (Err r) (Err q) e = ap Err (sym (numbered_refusal r) ∙ ap refusal_in e ∙ numbered_refusal q)
+
+pub verdict_injective : (v w : Result Unit Refusal) → verdict_of v ≡ verdict_of w → v ≡ w
+verdict_injective = outcome_injective (λ u. u) (λ a b e. e)

@@ -18,14 +18,10 @@ use Rattle.theorems.proofs.Accepted.{hops_from}
 use Rattle.theorems.proofs.Verdicts.{onward_then}
 use Rattle.rules.specs.Sizes.{nodes_most, links_most, packets_most, hops_most, start_most}
 use Rattle.rules.specs.Network.{Network, Job, link_at, paths_from, paths}
-use Rattle.rules.specs.Outcome.{Verdict, fine, refused, must, ◌then◌}
+use Rattle.rules.specs.Outcome.{Verdict, is, fine, refused, must, ◌then◌}
 use Rattle.rules.specs.Tables.{link_verdict, links_verdict, walk, packet_verdict, packets_verdict, stops_agree, tables}
 use Rattle.rules.specs.Answers.{starts_verdict}
-use Rattle.job.specs.declared.Refusal.{Refusal}
-use Rattle.job.specs.declared.Verdict.{Verdict as Told}
-use Rattle.job.specs.declared.Verdict.TheVariants.{Fine, Refused}
 use Rattle.job.specs.Lists.{network_of, entered, sizes_fit}
-use Rattle.job.specs.Told.{verdict_of}
 use Rattle.job.proofs.AfterVerdict.{refusal_stays, after_fine}
 
 -- tests with one refusal are one test
@@ -61,11 +57,11 @@ module _ (ends path : List ℕ) (count node : ℕ) (h : count ≤ length path) w
   seen_none q l = rw (drop_of_length-le (take count path) {i = q} (rw length-take-le l))
 
 -- the walk that is left from hop p on, with the nodes that the hops before it enter
-module _ (n : ℕ) (origins ends path : List ℕ) (source place : ℕ) where
+module _ (nodes : ℕ) (origins ends path : List ℕ) (source place : ℕ) where
   abbrev pub walk_left : (reached p : ℕ) → Verdict
-  walk_left reached p = walk (network_of n origins ends) place reached (source ∷ entered ends (take p path)) (drop p path)
+  walk_left reached p = walk (network_of nodes origins ends) place reached (source ∷ entered ends (take p path)) (drop p path)
 
-  pub walk_begins : walk (network_of n origins ends) place source (source ∷ []) path ≡ walk_left source 0
+  pub walk_begins : walk (network_of nodes origins ends) place source (source ∷ []) path ≡ walk_left source 0
   unfolding entered
   walk_begins = refl
 
@@ -143,11 +139,11 @@ module _ (net : Network) (sources stops hops : List ℕ) where
     unfolding packets_verdict paths_from
     packets_turn = rw (from_place sources k, from_place stops k, ← e, add-one k, part_slice)
 
-    pub packets_refused : {w : Told} {r : Refusal} → w ≡ Refused r → verdict_of w ≡ packet_here → verdict_of w ≡ packets_left from k
-    packets_refused d v = refusal_stays d v _ ∙ sym packets_turn
+    pub packets_refused : {number place : ℕ} → refused number place ≡ packet_here → packets_left from k ≡ refused number place
+    packets_refused e = packets_turn ∙ sym (refusal_stays e _)
 
-    pub packets_on : {w : Told} → w ≡ Fine → verdict_of w ≡ packet_here → packets_left from k ≡ packets_left to (k + 1)
-    packets_on d v = packets_turn ∙ after_fine d v _
+    pub packets_on : {u : Unit} → is u ≡ packet_here → packets_left from k ≡ packets_left to (k + 1)
+    packets_on e = packets_turn ∙ after_fine e _
 
   pub packets_done : (from k : ℕ) → length sources ≤ k → packets_left from k ≡ fine
   unfolding packets_verdict
@@ -166,11 +162,11 @@ module _ (nodes : ℕ) (origins ends : List ℕ) where
     unfolding links_verdict
     links_turn = rw (from_place origins l, from_place ends l, add-one l)
 
-    pub links_refused : {w : Told} {r : Refusal} → w ≡ Refused r → verdict_of w ≡ link_here → verdict_of w ≡ links_left l
-    links_refused d v = refusal_stays d v _ ∙ sym links_turn
+    pub links_refused : {number place : ℕ} → refused number place ≡ link_here → links_left l ≡ refused number place
+    links_refused e = links_turn ∙ sym (refusal_stays e _)
 
-    pub links_on : {w : Told} → w ≡ Fine → verdict_of w ≡ link_here → links_left l ≡ links_left (l + 1)
-    links_on d v = links_turn ∙ after_fine d v _
+    pub links_on : {u : Unit} → is u ≡ link_here → links_left l ≡ links_left (l + 1)
+    links_on e = links_turn ∙ after_fine e _
 
   pub links_done : (l : ℕ) → length origins ≤ l → links_left l ≡ fine
   unfolding links_verdict

@@ -7,12 +7,12 @@ ghost use Rattle.rules.specs.Sizes.{nodes_most, links_most, packets_most, path_m
 ghost use Rattle.rules.specs.Network.{paths};
 ghost use Rattle.rules.specs.Tables.{link_verdict, walk as walk_verdict, packet_verdict, links_verdict, packets_verdict, stops_agree, tables as tables_verdict};
 ghost use Rattle.rules.specs.Answers.{starts_verdict, started_verdict};
-ghost use Rattle.job.specs.Lists.{network_of, job_of, entered, sizes_fit};
+ghost use Rattle.job.specs.Lists.{network_of, network_in, job_in, entered, sizes_fit};
 ghost use Rattle.job.specs.Told.{number_place, verdict_of};
 ghost use Rattle.job.specs.Visited.{mark_of, with_visit, MarkedAs};
 
 // The counts of a job whose lists stand beside it.
-#[derive(Clone, Copy)]
+#[derive(Clone, Copy, Debug, PartialEq, Eq)]
 pub struct Job {
     pub nodes: u16,
     pub links: u16,
@@ -92,11 +92,11 @@ impl Job {
 const NODE_WORDS: usize = 16;
 
 // A position along a path.
-#[derive(Clone, Copy)]
+#[derive(Clone, Copy, Debug, PartialEq, Eq)]
 pub struct Hop(pub u16);
 
 // A step of the clock.
-#[derive(Clone, Copy)]
+#[derive(Clone, Copy, Debug, PartialEq, Eq)]
 pub struct Step(pub u32);
 
 impl Step {
@@ -104,12 +104,12 @@ impl Step {
     pub fn of(start: u16, hop: Hop) -> Step
         ensures { result.0 ≡ start + hop.0 }
     {
-        Step(start as u32 + hop.0 as u32)
+        Step(u32::from(start) + u32::from(hop.0))
     }
 }
 
 // What can be refused, with its place: a line of a text, a link or a packet.
-#[derive(Clone, Copy)]
+#[derive(Clone, Copy, Debug, PartialEq, Eq)]
 pub enum Refusal {
     TextTooLong,
     BadForm(u32),
@@ -175,33 +175,37 @@ impl Refusal {
     }
 }
 
+// The nodes of a network, and of each link the node it leaves and the node it enters.
 #[derive(Clone, Copy)]
-pub enum Verdict {
-    Fine,
-    Refused(Refusal),
+pub struct Network<'a> {
+    pub nodes: u16,
+    pub origins: &'a [u16],
+    pub ends: &'a [u16],
 }
 
-// A number of 16 bits, as a place in a list.
-pub fn wide(x: u16) -> usize
-    ensures { result ≡ x }
-{
-    x as usize
+// A job: its network, of each packet the node it starts from and where its path stops in the hops, and the links of all paths.
+#[derive(Clone, Copy)]
+pub struct JobLists<'a> {
+    pub network: Network<'a>,
+    pub sources: &'a [u16],
+    pub stops: &'a [u16],
+    pub hops: &'a [u16],
 }
 
 // One link: its nodes, then that they differ.
-pub fn link_verdict(nodes: u16, from: u16, to: u16, place: u32) -> Verdict
+pub fn link_verdict(nodes: u16, from: u16, to: u16, place: u32) -> Result<(), Refusal>
     ensures { verdict_of result ≡ link_verdict nodes place from to }
 {
     if from >= nodes {
-        return Verdict::Refused(Refusal::NoNode(place));
+        return Err(Refusal::NoNode(place));
     }
     if to >= nodes {
-        return Verdict::Refused(Refusal::NoNode(place));
+        return Err(Refusal::NoNode(place));
     }
     if from == to {
-        return Verdict::Refused(Refusal::SelfLink(place));
+        return Err(Refusal::SelfLink(place));
     }
-    Verdict::Fine
+    Ok(())
 }
 
 // Whether the node is the source, or one that the first links of the path enter.
@@ -214,7 +218,7 @@ fn visited(ends: &[u16], path: &[u16], count: usize, source: u16, node: u16) -> 
     }
     let mut q = 0;
     while q < count {
-        let link = wide(path[q]);
+        let link = usize::from(path[q]);
         if ends[link] == node {
             return true;
         }
@@ -235,7 +239,7 @@ fn mark_of(node: usize) -> usize
 fn visit(words: &mut [u64], node: u16)
     ensures { words.new ≡ with_visit words.old node }
 {
-    let n = wide(node);
+    let n = usize::from(node);
     if n < Job::NODES {
         marks::mark(words, mark_of(n));
     }
@@ -247,64 +251,79 @@ fn seen(words: &[u64], ends: &[u16], path: &[u16], count: usize, source: u16, no
         × MarkedAs (source ∷ entered ends.now (take count path.now)) words.now }
     ensures { result ≡ among node (source ∷ entered ends.now (take count path.now)) }
 {
-    let asked = wide(node);
+    let asked = usize::from(node);
     if asked < Job::NODES {
         return marks::is_marked(words, mark_of(asked));
     }
     visited(ends, path, count, source, node)
 }
 
-// The path hop by hop, from its source.
-fn walk(origins: &[u16], ends: &[u16], path: &[u16], source: u16, place: u32) -> Verdict
-    ensures { (n : ℕ) → verdict_of result ≡ walk_verdict (network_of n origins.now ends.now) place source (source ∷ []) path.now }
-{
-    let mut words = [0u64; NODE_WORDS];
-    visit(&mut words, source);
-    let mut reached = source;
-    let mut p = 0;
-    while p < path.len() {
-        let link = wide(path[p]);
-        if link >= origins.len() {
-            return Verdict::Refused(Refusal::NoLink(place));
+impl Network<'_> {
+    // The path hop by hop, from its source.
+    fn walk(&self, path: &[u16], source: u16, place: u32) -> Result<(), Refusal>
+        ensures { verdict_of result ≡ walk_verdict (network_in self.now) place source (source ∷ []) path.now }
+    {
+        let Network { origins, ends, .. } = *self;
+        let mut words = [0u64; NODE_WORDS];
+        visit(&mut words, source);
+        let mut reached = source;
+        let mut p = 0;
+        while p < path.len() {
+            let link = usize::from(path[p]);
+            if link >= origins.len() {
+                return Err(Refusal::NoLink(place));
+            }
+            if link >= ends.len() {
+                return Err(Refusal::NoLink(place));
+            }
+            if origins[link] != reached {
+                return Err(Refusal::NotLeaving(place));
+            }
+            let node = ends[link];
+            if seen(&words, ends, path, p, source, node) {
+                return Err(Refusal::Revisited(place));
+            }
+            visit(&mut words, node);
+            reached = node;
+            p += 1;
         }
-        if link >= ends.len() {
-            return Verdict::Refused(Refusal::NoLink(place));
-        }
-        if origins[link] != reached {
-            return Verdict::Refused(Refusal::NotLeaving(place));
-        }
-        let node = ends[link];
-        if seen(&words, ends, path, p, source, node) {
-            return Verdict::Refused(Refusal::Revisited(place));
-        }
-        visit(&mut words, node);
-        reached = node;
-        p += 1;
+        Ok(())
     }
-    Verdict::Fine
-}
 
-// One packet: its path's length, its source, that it has hops, then each of them.
-pub fn packet_verdict(
-    nodes: u16,
-    origins: &[u16],
-    ends: &[u16],
-    path: &[u16],
-    source: u16,
-    place: u32,
-) -> Verdict
-    ensures { verdict_of result ≡ packet_verdict (network_of nodes origins.now ends.now) place source path.now }
-{
-    if path.len() > Job::PATH {
-        return Verdict::Refused(Refusal::Size(place));
+    // One packet: its path's length, its source, that it has hops, then each of them.
+    pub fn packet_verdict(&self, path: &[u16], source: u16, place: u32) -> Result<(), Refusal>
+        ensures { verdict_of result ≡ packet_verdict (network_in self.now) place source path.now }
+    {
+        if path.len() > Job::PATH {
+            return Err(Refusal::Size(place));
+        }
+        let nodes = self.nodes;
+        if source >= nodes {
+            return Err(Refusal::NoNode(place));
+        }
+        if path.is_empty() {
+            return Err(Refusal::NoHops(place));
+        }
+        self.walk(path, source, place)
     }
-    if source >= nodes {
-        return Verdict::Refused(Refusal::NoNode(place));
+
+    // The links in order.
+    fn links_verdict(&self) -> Result<(), Refusal>
+        requires { (length self.now.ends.now ≡ length self.now.origins.now) × (length self.now.origins.now ≤ links_most) }
+        ensures { verdict_of result ≡ links_verdict self.now.nodes 0 self.now.origins.now self.now.ends.now }
+    {
+        let Network {
+            nodes,
+            origins,
+            ends,
+        } = *self;
+        let mut l = 0;
+        while l < origins.len() {
+            link_verdict(nodes, origins[l], ends[l], l as u32)?;
+            l += 1;
+        }
+        Ok(())
     }
-    if path.len() == 0 {
-        return Verdict::Refused(Refusal::NoHops(place));
-    }
-    walk(origins, ends, path, source, place)
 }
 
 // Whether the stops never fall, and the last is the number of hops.
@@ -314,7 +333,7 @@ fn stops_agree(stops: &[u16], hops: usize) -> bool
     let mut last = 0;
     let mut k = 0;
     while k < stops.len() {
-        let stop = wide(stops[k]);
+        let stop = usize::from(stops[k]);
         if stop < last {
             return false;
         }
@@ -328,119 +347,90 @@ fn sizes_fit(nodes: u16, links: usize, packets: usize, hops: usize) -> bool
     ensures { result ≡ sizes_fit nodes links packets hops }
 {
     nodes >= 1
-        && wide(nodes) <= Job::NODES
+        && usize::from(nodes) <= Job::NODES
         && links <= Job::LINKS
         && packets <= Job::PACKETS
         && hops <= Job::HOPS
 }
 
-// The links in order.
-fn links_verdict(nodes: u16, origins: &[u16], ends: &[u16]) -> Verdict
-    requires { (length ends.now ≡ length origins.now) × (length origins.now ≤ links_most) }
-    ensures { verdict_of result ≡ links_verdict nodes 0 origins.now ends.now }
-{
-    let mut l = 0;
-    while l < origins.len() {
-        let verdict = link_verdict(nodes, origins[l], ends[l], l as u32);
-        let Verdict::Fine = verdict else {
-            return verdict;
-        };
-        l += 1;
-    }
-    Verdict::Fine
-}
-
-// The packets in order.
-fn packets_verdict(
-    nodes: u16,
-    origins: &[u16],
-    ends: &[u16],
-    sources: &[u16],
-    stops: &[u16],
-    hops: &[u16],
-) -> Verdict
-    requires { (length stops.now ≡ length sources.now) × (length sources.now ≤ packets_most)
-        × (stops_agree 0 stops.now (length hops.now) ≡ true) }
-    ensures { verdict_of result ≡ packets_verdict (network_of nodes origins.now ends.now) 0 sources.now
-        (paths (job_of nodes origins.now ends.now sources.now stops.now hops.now)) }
-{
-    let mut from = 0;
-    let mut k = 0;
-    while k < sources.len() {
-        let to = wide(stops[k]);
-        let verdict = packet_verdict(nodes, origins, ends, &hops[from..to], sources[k], k as u32);
-        let Verdict::Fine = verdict else {
-            return verdict;
-        };
-        from = to;
-        k += 1;
-    }
-    Verdict::Fine
-}
-
-// The tables of a job: that they agree, their sizes, then links and packets.
-pub fn tables(
-    nodes: u16,
-    origins: &[u16],
-    ends: &[u16],
-    sources: &[u16],
-    stops: &[u16],
-    hops: &[u16],
-) -> Verdict
-    ensures { verdict_of result ≡ tables_verdict (job_of nodes origins.now ends.now sources.now stops.now hops.now) }
-{
-    if origins.len() != ends.len() {
-        return Verdict::Refused(Refusal::Disagree);
-    }
-    if sources.len() != stops.len() {
-        return Verdict::Refused(Refusal::Disagree);
-    }
-    if !stops_agree(stops, hops.len()) {
-        return Verdict::Refused(Refusal::Disagree);
-    }
-    if !sizes_fit(nodes, origins.len(), sources.len(), hops.len()) {
-        return Verdict::Refused(Refusal::Size(0));
-    }
-    let links = links_verdict(nodes, origins, ends);
-    let Verdict::Fine = links else {
-        return links;
-    };
-    packets_verdict(nodes, origins, ends, sources, stops, hops)
-}
-
 // The lowest packet whose start is too late.
-fn starts_verdict(starts: &[u16]) -> Verdict
+fn starts_verdict(starts: &[u16]) -> Result<(), Refusal>
     requires { length starts.now ≤ packets_most }
     ensures { verdict_of result ≡ starts_verdict 0 starts.now }
 {
     let mut packet = 0;
     while packet < starts.len() {
         if starts[packet] > Job::START {
-            return Verdict::Refused(Refusal::LateStart(packet as u32));
+            return Err(Refusal::LateStart(packet as u32));
         }
         packet += 1;
     }
-    Verdict::Fine
+    Ok(())
 }
 
-// A job with starts made elsewhere: its tables, a start for each packet, none too late.
-pub fn started(
-    nodes: u16,
-    origins: &[u16],
-    ends: &[u16],
-    sources: &[u16],
-    stops: &[u16],
-    hops: &[u16],
-    starts: &[u16],
-) -> Verdict
-    ensures { verdict_of result ≡ started_verdict (job_of nodes origins.now ends.now sources.now stops.now hops.now) starts.now }
-{
-    let verdict = tables(nodes, origins, ends, sources, stops, hops);
-    let Verdict::Fine = verdict else {
-        return verdict;
-    };
-    if starts.len() != sources.len() {
-        return Verdict::Refused(Refusal::StartCount);
+impl JobLists<'_> {
+    // The packets in order.
+    fn packets_verdict(&self) -> Result<(), Refusal>
+        requires { (length self.now.stops.now ≡ length self.now.sources.now) × (length self.now.sources.now ≤ packets_most)
+            × (stops_agree 0 self.now.stops.now (length self.now.hops.now) ≡ true) }
+        ensures { verdict_of result ≡ packets_verdict (network_in self.now.network) 0 self.now.sources.now (paths (job_in self.now)) }
+    {
+        let JobLists {
+            network,
+            sources,
+            stops,
+            hops,
+        } = *self;
+        let mut from = 0;
+        let mut k = 0;
+        while k < sources.len() {
+            let to = usize::from(stops[k]);
+            network.packet_verdict(&hops[from..to], sources[k], k as u32)?;
+            from = to;
+            k += 1;
+        }
+        Ok(())
     }
-    starts_verdict(starts)
+
+    // The tables of a job: that they agree, their sizes, then links and packets.
+    pub fn tables(&self) -> Result<(), Refusal>
+        ensures { verdict_of result ≡ tables_verdict (job_in self.now) }
+    {
+        let JobLists {
+            network,
+            sources,
+            stops,
+            hops,
+        } = *self;
+        let Network {
+            nodes,
+            origins,
+            ends,
+        } = network;
+        if origins.len() != ends.len() {
+            return Err(Refusal::Disagree);
+        }
+        if sources.len() != stops.len() {
+            return Err(Refusal::Disagree);
+        }
+        if !stops_agree(stops, hops.len()) {
+            return Err(Refusal::Disagree);
+        }
+        if !sizes_fit(nodes, origins.len(), sources.len(), hops.len()) {
+            return Err(Refusal::Size(0));
+        }
+        network.links_verdict()?;
+        self.packets_verdict()
+    }
+
+    // A job with starts made elsewhere: its tables, a start for each packet, none too late.
+    pub fn started(&self, starts: &[u16]) -> Result<(), Refusal>
+        ensures { verdict_of result ≡ started_verdict (job_in self.now) starts.now }
+    {
+        self.tables()?;
+        if starts.len() != self.sources.len() {
+            return Err(Refusal::StartCount);
+        }
+        starts_verdict(starts)
+    }
 }

@@ -8,6 +8,7 @@ use native.Mathlib.Omega.{arith}
 use lib.Dec.{leb}
 use lib.ListN.{length, take, replicate, length-append, length-replicate}
 use lib.Seq.{take-append_seam}
+use Rattle.std.specs.Prelude.{Result, Ok}
 use Rattle.rules.specs.Sizes.{text_most, links_most, packets_most, hops_most}
 use Rattle.rules.specs.Network.{Job}
 use Rattle.rules.specs.Outcome.{Outcome, is, fine, must, ◌then◌}
@@ -17,8 +18,7 @@ use Rattle.rules.specs.JobText.{reading, all_lines}
 use Rattle.theorems.proofs.Verdicts.{is_iff, onward_is, then_is_iff}
 use Rattle.theorems.proofs.TextJobs.{reading_job, reading_accepted}
 use Rattle.job.specs.declared.Job.{Job as Counts}
-use Rattle.job_text.specs.declared.Reading.{Reading}
-use Rattle.job_text.specs.declared.Reading.TheVariants.{Read}
+use Rattle.job.specs.declared.Refusal.{Refusal}
 use Rattle.job_text.specs.Told.{Lists, lists, room_for, roomy, read_in, filled, counts_of, ReadAs}
 use Rattle.job_text.specs.SoFar.{so_far}
 
@@ -31,7 +31,7 @@ read_of : (text : List ℕ) (lent : Lists) (j : Job) → read_in text lent ≡ i
 unfolding read_in
 read_of text lent j e = ((then_is_iff (must (roomy lent) 10 0) (reading text) j).0 ((then_is_iff (must (leb (length text) text_most) 1 0) _ j).0 e).1).1
 
-module _ (text : List ℕ) {lent after : Lists} {counts : Counts} (r : ReadAs (read_in text lent) (Read counts) lent after) where
+module _ (text : List ℕ) {lent after : Lists} {counts : Counts} (r : ReadAs (read_in text lent) (Ok counts) lent after) where
   stands : (j : Job) → read_in text lent ≡ is j → counts_of j ≡ counts → read_in text lent ≡ is (so_far counts after)
   stands j o e =
       let f = rw o at r in
@@ -79,9 +79,9 @@ pub record Holds (counts : Counts) (l : Lists) : Type 0 where
   pub stops : counts.packets ≤ length l.stops
   pub hops : counts.hops ≤ length l.hops
 
-pub read_holds : (text : List ℕ) {lent after : Lists} {told : Reading} {counts : Counts} → told ≡ Read counts → ReadAs (read_in text lent) told lent after → Holds counts after
+pub read_holds : (text : List ℕ) {lent after : Lists} {told : Result Counts Refusal} {counts : Counts} → told ≡ Ok counts → ReadAs (read_in text lent) told lent after → Holds counts after
 read_holds text {lent} {after} {counts = counts} t a =
-    let read : ReadAs (read_in text lent) (Read counts) lent after = rw t at a in
+    let read : ReadAs (read_in text lent) (Ok counts) lent after = rw t at a in
     let (j, o, e) = onward_is (read_in text lent) (λ j. is (counts_of j)) (sym read.answer) in
     let f = rw o at read in
     let c = is_iff.0 e in

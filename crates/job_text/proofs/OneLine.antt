@@ -10,18 +10,19 @@ use borrow.Author.Tests.{ne_eqb, lt-ltb, le-ltb}
 use lib.Dec.{eqb, ltb}
 use lib.ListN.{length, take, drop, set}
 use lib.Seq.{length-take-le, take-set-le, take-append_seam, drop_at, sets, length-sets, sets-eq}
+use Rattle.std.specs.Prelude.{Option as Answer, None, Some}
 use Rattle.counting.specs.Count.{pick}
 use Rattle.rules.specs.Bytes.{line_feed, letter_l, letter_n, letter_p, cons_onto, numbers_of, begins}
 use Rattle.rules.specs.JobText.{Line, packet, bad, letter_line, fields_line, line_of}
-use Rattle.lines.specs.declared.reading.Copied.TheVariants.{Numbers, NoNumber}
+use Rattle.lines.specs.declared.reading.Copied.{Copied}
 use Rattle.lines.specs.Behind.{letter_of, line_rest, line_end, fields_behind, copied, leading}
-use Rattle.lines.proofs.BehindPlaces.{letter_here, SaidBehind}
-use Rattle.lines.proofs.LetterAndFeed.{ByLetter, line_letter, letter_open, begun, fed, unfed, Unsaid, unsaid}
+use Rattle.lines.proofs.BehindPlaces.{SaidBehind}
+use Rattle.lines.proofs.LetterAndFeed.{ByLetter, lettered, line_letter, letter_open, begun, fed, unfed, Unsaid, unsaid}
 use Rattle.lines.proofs.CopyingNumbers.{all_said}
 use Rattle.job_text.specs.declared.Line.{Line as Told}
 use Rattle.job_text.specs.declared.Line.TheVariants.{Nodes, Link, Packet}
 use Rattle.job_text.specs.declared.Found.{Found}
-use Rattle.job_text.specs.LineInText.{bad_line, ended, said_at, said_behind, path_of, line_told, PathStands, LineAs, FoundAs}
+use Rattle.job_text.specs.LineInText.{ended, said_at, said_behind, path_of, line_told, PathStands, LineAs, FoundAs, ToldAs}
 
 -- ---- a letter and the fields behind it
 
@@ -49,7 +50,11 @@ by_letter = record {
   part = λ b o h. no_letter b o (λ e. omega arith) (λ e. omega arith) (λ e. omega arith);
 }
 
-said_of : (text : List ℕ) (at : ℕ) → line_of (line_rest (drop at text)) ≡ letter_line (letter_of (drop at text)) (numbers_of (fields_behind text (at + 1)))
+-- what is said by a letter, if there is one
+abbrev said_by : Answer ℕ → Option (List ℕ) → Line
+said_by = lettered bad letter_line
+
+said_of : (text : List ℕ) (at : ℕ) → line_of (line_rest (drop at text)) ≡ said_by (letter_of (drop at text)) (numbers_of (fields_behind text (at + 1)))
 unfolding line_of
 said_of text at = line_letter by_letter text at
 
@@ -70,36 +75,38 @@ module _ (text : List ℕ) (at : ℕ) (said : Line) where
       go false = refl
 
 -- the line that begins at a place, by its letter
-module _ (text : List ℕ) (at : ℕ) {letter : ℕ} (e : letter ≡ letter_of (drop at text)) where
-  pub letter_within : 0 < letter → at < length text
-  letter_within n = (letter_here text at (λ z. omega (arith, e, z))).0
-
-  said_letter : {l : ℕ} → letter ≡ l → line_end text at ≡ line_end text (at + 1) → said_at text at ≡ said_behind l text (at + 1)
-  unfolding said_at said_behind
-  said_letter k x = rw (said_of text at, ← e, k, x)
-
-  pub found_by_letter : {l : ℕ} {found : Found} {hops : List ℕ} {from : ℕ} → letter ≡ l → line_feed < l
-      → FoundAs (said_behind l text (at + 1)) text (at + 1) found hops from → FoundAs (said_at text at) text at found hops from
-  found_by_letter k l f =
-      let (h, x) = letter_open text at (omega (arith, e, k)) in
-      let w = said_letter k x in
-      rw w (record { line = f.line; ends = λ n. (let (g, i) = f.ends n in (g ∙ sym x, i)) })
-
-  pub said_no_letter : (letter ≡ letter_n → ⊥) → (letter ≡ letter_l → ⊥) → (letter ≡ letter_p → ⊥) → said_at text at ≡ bad
+module _ (text : List ℕ) (at : ℕ) where
+  pub said_no_letter : letter_of (drop at text) ≡ None → said_at text at ≡ bad
   unfolding said_at
-  said_no_letter n l p = ended_bad text at _ (said_of text at ∙ rw (← e) (no_letter letter (numbers_of (fields_behind text (at + 1))) n l p))
+  said_no_letter e = ended_bad text at _ (said_of text at ∙ rw e)
+
+  module _ {letter : ℕ} (e : Some letter ≡ letter_of (drop at text)) where
+    pub said_other_letter : (letter ≡ letter_n → ⊥) → (letter ≡ letter_l → ⊥) → (letter ≡ letter_p → ⊥) → said_at text at ≡ bad
+    unfolding said_at
+    said_other_letter n l p = ended_bad text at _ (said_of text at ∙ rw (← e) (no_letter letter (numbers_of (fields_behind text (at + 1))) n l p))
+
+    said_letter : line_end text at ≡ line_end text (at + 1) → said_at text at ≡ said_behind letter text (at + 1)
+    unfolding said_at said_behind
+    said_letter x = rw (said_of text at, ← e, x)
+
+    -- what is told of the line behind its letter is told of the line
+    module _ {l : ℕ} (k : letter ≡ l) (o : line_feed < l) where
+      goes_on : line_end text at ≡ line_end text (at + 1)
+      goes_on = (letter_open text at (sym e) (omega arith)).1
+
+      pub told_by_letter : (told : Answer Found) (hops : List ℕ) (from : ℕ)
+          → ToldAs (said_behind l text (at + 1)) text (at + 1) told hops from → ToldAs (said_at text at) text at told hops from
+      told_by_letter None hops from f = said_letter goes_on ∙ rw k f
+      told_by_letter (Some found) hops from f = rw (said_letter goes_on, k) (record { line = f.line; ends = f.ends ∙ sym goes_on; fed = f.fed })
 
 -- ---- what is found
-
-pub found_bad : {said : Line} {text : List ℕ} {at : ℕ} {hops : List ℕ} {from : ℕ} → said ≡ bad → FoundAs said text at bad_line hops from
-found_bad e = record { line = record { says = sym e; stands = tt }; ends = λ n. absurd (n e) }
 
 -- a line that is whole and says this
 found-said : {said now : Line} {text : List ℕ} {at : ℕ} {told : Told} {end : ℕ} {hops : List ℕ} {from : ℕ} → ended text at said ≡ now
     → LineAs said told hops from → end ≡ line_end text at → end < length text → FoundAs now text at (record { line = told; end = end }) hops from
 found-said {said} {now} {text} {at} w a e h =
     let s : now ≡ said = sym w ∙ ended-whole text at said (omega arith) in
-    rw s (record { line = a; ends = λ n. (e, h) })
+    rw s (record { line = a; ends = e; fed = h })
 
 -- ---- the three kinds of line
 
@@ -166,8 +173,8 @@ sets-before : (vs list : List ℕ) (n i : ℕ) → n ≤ i → take n (sets list
 sets-before [] list n i h = refl
 sets-before (v ∷ vs) list n i h = sets-before vs (set list i v) n (suc i) (omega arith) ∙ take-set-le n list i v h
 
-pub stays : (vs list : List ℕ) (from : ℕ) {after : List ℕ} → after ≡ sets list from vs → take from after ≡ take from list
-stays vs list from e = rw e (sets-before vs list from from (omega arith))
+pub stays : (text list : List ℕ) (at from : ℕ) {after : List ℕ} → after ≡ sets list from (leading (fields_behind text at)) → take from after ≡ take from list
+stays text list at from e = rw e (sets-before (leading (fields_behind text at)) list from from (omega arith))
 
 -- and what is stored stands there, if there is room for it
 path_stands : (path hops : List ℕ) (from : ℕ) {count : ℕ} → count ≡ length path → PathStands count (sets hops from path) from path
@@ -180,19 +187,19 @@ path_stands path hops from {count} e = record {
 }
 
 -- what was copied
-copied_some : (o : Option (List ℕ)) (stop : ℕ) {count end : ℕ} → copied o stop ≡ Numbers count end → (ns : List ℕ) × (o ≡ some ns) × (count ≡ length ns) × (end ≡ stop)
-copied_some none stop e = absurd (let z : ◌≡◌ {A = ℕ} 0 1 = cc in omega arith)
-copied_some (some ns) stop {count} {end} e = let c : length ns ≡ count = cc in let s : stop ≡ end = cc in (ns, refl, sym c, sym s)
+copied_some : (o : Option (List ℕ)) (stop : ℕ) {path : Copied} → copied o stop ≡ Some path → (ns : List ℕ) × (o ≡ some ns) × (path.count ≡ length ns) × (path.end ≡ stop)
+copied_some none stop e = absurd cc
+copied_some (some ns) stop {path} e = let w : record { count = length ns; end = stop } ≡ path = cc in (ns, refl, sym (ap (λ p. p.count) w), sym (ap (λ p. p.end) w))
 
-copied_none : (o : Option (List ℕ)) (stop : ℕ) → copied o stop ≡ NoNumber → o ≡ none
+copied_none : (o : Option (List ℕ)) (stop : ℕ) → copied o stop ≡ None → o ≡ none
 copied_none none stop e = refl
-copied_none (some ns) stop e = absurd (let z : ◌≡◌ {A = ℕ} 0 1 = cc in omega arith)
+copied_none (some ns) stop e = absurd cc
 
 module _ {text : List ℕ} {at source path_from : ℕ} (f : SaidBehind text at source path_from) where
   abbrev path : Option (List ℕ)
   path = numbers_of (fields_behind text path_from)
 
-  pub no_path : copied path (line_end text path_from) ≡ NoNumber → said_behind letter_p text at ≡ bad
+  pub no_path : copied path (line_end text path_from) ≡ None → said_behind letter_p text at ≡ bad
   unfolding said_behind
   no_path e = ended_bad text at _ (rw (f.numbers, copied_none path (line_end text path_from) e))
 
@@ -204,7 +211,7 @@ module _ {text : List ℕ} {at source path_from : ℕ} (f : SaidBehind text at s
       let stored : after ≡ sets hops from ns = put ∙ ap (sets hops from) (all_said (fields_behind text path_from) o) in
       found-said {said = packet source ns} (rw (f.numbers, o)) (record { says = refl; stands = rw stored (path_stands ns hops from k) }) (s ∙ sym f.same_line) h
 
-  module _ {count end : ℕ} (e : copied path (line_end text path_from) ≡ Numbers count end) where
+  module _ {count end : ℕ} (e : copied path (line_end text path_from) ≡ Some (record { count = count; end = end })) where
     pub packet_cut : length text ≤ end → said_behind letter_p text at ≡ bad
     unfolding said_behind
     packet_cut h =
@@ -222,9 +229,6 @@ module _ {text : List ℕ} {at source path_from : ℕ} (f : SaidBehind text at s
 module _ {said : Line} {told : Told} {hops : List ℕ} {from : ℕ} (a : LineAs said told hops from) where
   pub told_line : {t : Told} → told ≡ t → said ≡ line_told (path_of said) t
   told_line d = sym a.says ∙ ap (line_told (path_of said)) d
-
-  pub told-path : {source count : ℕ} → told ≡ Packet source count → PathStands count hops from (path_of said)
-  told-path d = rw d at a.stands
 
   pub told_from : {place : ℕ} → from ≡ place → LineAs said told hops place
   told_from e = rw (← e) a

@@ -7,12 +7,12 @@ use borrow.Author.Tests.{leb-true, le-leb, lt-leb}
 use lib.Dec.{leb}
 use lib.ListN.{length}
 use Rattle.counting.proofs.Tests.{and_left, and_right}
+use Rattle.std.specs.Prelude.{Err}
 use Rattle.rules.specs.Sizes.{text_most, links_most, packets_most, hops_most}
 use Rattle.rules.specs.Outcome.{refused}
 use Rattle.rules.specs.Bytes.{line_feed, split}
 use Rattle.rules.specs.JobText.{all_lines, reading}
 use Rattle.job.specs.declared.Refusal.TheVariants.{TextTooLong, ShortRoom}
-use Rattle.job_text.specs.declared.Reading.TheVariants.{Refused}
 use Rattle.job_text.specs.Told.{Lists, roomy, read_in, ReadAs}
 use Rattle.job_text.specs.SoFar.{Room}
 
@@ -47,8 +47,8 @@ module _ (text : List ℕ) (lent : Lists) where
   taken_up h r = rw (le-leb (length text) text_most, r)
 
 -- 1 and 10 leave the lists as they are
-pub text_too_long : (lent : Lists) → ReadAs (refused 1 0) (Refused TextTooLong) lent lent
+pub text_too_long : (lent : Lists) → ReadAs (refused 1 0) (Err TextTooLong) lent lent
 text_too_long lent = record { answer = refl; lists = refl }
 
-pub short_room : (lent : Lists) → ReadAs (refused 10 0) (Refused ShortRoom) lent lent
+pub short_room : (lent : Lists) → ReadAs (refused 10 0) (Err ShortRoom) lent lent
 short_room lent = record { answer = refl; lists = refl }

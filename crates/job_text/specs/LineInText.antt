@@ -1,16 +1,12 @@
 -- What the reader's own functions promise of a line by itself: what it says and where it ends.
-use Rattle.std.specs.Prelude.{◌≡◌, List, [], ℕ, ◌+◌, ◌≤◌, ◌<◌, ltb, length, take, drop}
+use Rattle.std.specs.Prelude.{◌≡◌, List, [], ℕ, ◌+◌, ◌≤◌, ◌<◌, ltb, length, take, drop, Option, MatchOption}
 use Rattle.counting.specs.Count.{pick}
 use Rattle.rules.specs.Bytes.{numbers_of}
 use Rattle.rules.specs.JobText.{Line as Said, nodes, link, packet, bad, letter_line, line_of}
 use Rattle.lines.specs.Behind.{line_rest, line_end, fields_behind}
 use Rattle.job_text.specs.declared.Line.{Line}
-use Rattle.job_text.specs.declared.Line.TheVariants.{Nodes, Link, Packet, Bad}
+use Rattle.job_text.specs.declared.Line.TheVariants.{Nodes, Link, Packet}
 use Rattle.job_text.specs.declared.Found.{Found}
-
--- what is told where there is no line of a job
-abbrev pub bad_line : Found
-bad_line = record { line = Bad; end = 0 }
 
 -- a line that no line feed ends is bad
 abbrev pub ended : List ℕ → ℕ → Said → Said
@@ -34,7 +30,6 @@ abbrev pub line_told : List ℕ → Line → Said
 line_told path (Nodes n) = nodes n
 line_told path (Link from to) = link from to
 line_told path (Packet source count) = packet source path
-line_told path Bad = bad
 
 -- a path of so many hops stands in a list from a place on, if the list has room for it
 pub record PathStands (count : ℕ) (hops : List ℕ) (from : ℕ) (path : List ℕ) : Type 0 where
@@ -45,14 +40,18 @@ abbrev pub Stands : Line → List ℕ → ℕ → List ℕ → Type 0
 Stands (Nodes n) hops from path = Unit
 Stands (Link start end) hops from path = Unit
 Stands (Packet source count) hops from path = PathStands count hops from path
-Stands Bad hops from path = Unit
 
 -- what is told of a line is what it says, and its path stands in the hops
 pub record LineAs (said : Said) (told : Line) (hops : List ℕ) (from : ℕ) : Type 0 where
   pub says : line_told (path_of said) told ≡ said
   pub stands : Stands told hops from (path_of said)
 
--- and it is told where it ends, if it says something
+-- and it is told where it ends, at its line feed
 pub record FoundAs (said : Said) (text : List ℕ) (at : ℕ) (found : Found) (hops : List ℕ) (from : ℕ) : Type 0 where
   pub line : LineAs said found.line hops from
-  pub ends : (said ≡ bad → ⊥) → (found.end ≡ line_end text at) × (found.end < length text)
+  pub ends : found.end ≡ line_end text at
+  pub fed : found.end < length text
+
+-- a line is told, or nothing of a bad one
+abbrev pub ToldAs : Said → List ℕ → ℕ → Option Found → List ℕ → ℕ → Type 0
+ToldAs said text at told hops from = MatchOption told (said ≡ bad) (λ found. FoundAs said text at found hops from)

@@ -1,14 +1,14 @@
 -- Document 01, "Refusals and their order", Text: what the reader answers, and what the five lists it is lent hold afterwards.
-use Rattle.std.specs.Prelude.{◌≡◌, Bool, ◌&&◌, ◌||◌, List, [], ◌++◌, ℕ, ◌-◌, eqb, leb, length, replicate}
+use Rattle.std.specs.Prelude.{◌≡◌, Bool, ◌&&◌, ◌||◌, List, [], ◌++◌, ℕ, ◌-◌, eqb, leb, length, replicate, Result, Ok, Err}
 use Rattle.counting.specs.Count.{pick}
 use Rattle.rules.specs.Sizes.{text_most, links_most, packets_most, hops_most}
 use Rattle.rules.specs.Network.{Job}
 use Rattle.rules.specs.Outcome.{Outcome, is, refused, must, ◌then◌, onward}
 use Rattle.rules.specs.JobText.{reading}
 use Rattle.job.specs.declared.Job.{Job as Counts}
+use Rattle.job.specs.declared.Refusal.{Refusal}
 use Rattle.job.specs.Told.{refusal_of}
-use Rattle.job_text.specs.declared.Reading.{Reading}
-use Rattle.job_text.specs.declared.Reading.TheVariants.{Read, Refused}
+use Rattle.job_text.specs.declared.LentLists.{LentLists}
 
 -- the five lists
 pub record Lists : Type 0 where
@@ -20,6 +20,27 @@ pub record Lists : Type 0 where
 
 abbrev pub lists : (origins ends sources stops hops : List ℕ) → Lists
 lists origins ends sources stops hops = record { origins = origins; ends = ends; sources = sources; stops = stops; hops = hops }
+
+-- what is in the lists that are lent
+abbrev pub lists_in : LentLists → Lists
+lists_in l = lists l.origins.now l.ends.now l.sources.now l.stops.now l.hops.now
+
+-- each list is as long as before
+pub record SameLengths (lent after : Lists) : Type 0 where
+  pub origins : length after.origins ≡ length lent.origins
+  pub ends : length after.ends ≡ length lent.ends
+  pub sources : length after.sources ≡ length lent.sources
+  pub stops : length after.stops ≡ length lent.stops
+  pub hops : length after.hops ≡ length lent.hops
+
+-- the same lists are lent after as before, and as long, whatever is in them
+pub record SameLists (old new : LentLists) : Type 0 where
+  pub origins : new.origins.ghost_name ≡ old.origins.ghost_name
+  pub ends : new.ends.ghost_name ≡ old.ends.ghost_name
+  pub sources : new.sources.ghost_name ≡ old.sources.ghost_name
+  pub stops : new.stops.ghost_name ≡ old.stops.ghost_name
+  pub hops : new.hops.ghost_name ≡ old.hops.ghost_name
+  pub long : SameLengths (lists_in old) (lists_in new)
 
 -- lists so long are none shorter than its size
 abbrev pub room_for : (origins ends sources stops hops : ℕ) → Bool
@@ -56,11 +77,11 @@ abbrev pub counts_of : Job → Counts
 counts_of j =
     record { nodes = j.network.nodes; links = length j.network.origins; packets = length j.sources; hops = length j.hops }
 
-abbrev pub reading_of : Reading → Outcome Counts
-reading_of (Read counts) = is counts
-reading_of (Refused refusal) = refusal_of refusal
+abbrev pub reading_of : Result Counts Refusal → Outcome Counts
+reading_of (Ok counts) = is counts
+reading_of (Err refusal) = refusal_of refusal
 
 -- the answer, and the five lists afterwards
-pub record ReadAs (outcome : Outcome Job) (told : Reading) (lent after : Lists) : Type 0 where
+pub record ReadAs (outcome : Outcome Job) (told : Result Counts Refusal) (lent after : Lists) : Type 0 where
   pub answer : reading_of told ≡ onward outcome (λ j. is (counts_of j))
   pub lists : after ≡ lists_after outcome lent

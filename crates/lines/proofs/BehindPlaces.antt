@@ -16,8 +16,11 @@ use lib.Seq.{length-take-le, drop-drop}
 use Rattle.counting.specs.Count.{pick}
 use Rattle.counting.proofs.Places.{from_place}
 use Rattle.rules.specs.Bytes.{tab, line_feed, number_of, cons_onto, numbers_of, split}
-use Rattle.lines.specs.declared.reading.Field.{Field}
-use Rattle.lines.specs.declared.reading.Field.TheVariants.{Number as Said, NoNumber as SaysNone, NoField}
+use Rattle.std.proofs.Common.{Option as Answer, None, Some, Result, Ok, Err}
+use Rattle.std.specs.Result.{result_ok}
+use Rattle.lines.specs.declared.reading.Number.{Number}
+use Rattle.lines.specs.declared.reading.Absent.{Absent}
+use Rattle.lines.specs.declared.reading.Absent.TheVariants.{NoNumber, NoField}
 use Rattle.lines.specs.Pieces.{before, pieces_after}
 use Rattle.lines.specs.Behind.{letter_of, line_rest, line_end, fields_behind, said_up_to, first_field, field_rest, field_at, leading}
 use Rattle.lines.proofs.Cuts.{before-le, split_cut}
@@ -71,30 +74,30 @@ field_short (b ∷ bs) = go (eqb b tab || eqb b line_feed) (field_short bs)
 -- ---- the letter
 
 module _ (text : List ℕ) (at : ℕ) where
-  pub letter_past : length text ≤ at → letter_of (drop at text) ≡ 0
+  pub letter_past : length text ≤ at → letter_of (drop at text) ≡ None
   letter_past h = rw (drop_of_length-le text h)
 
   module _ (h : at < length text) where
-    pub letter_last : length text ≤ at + 1 → letter_of (drop at text) ≡ 0
+    pub letter_last : length text ≤ at + 1 → letter_of (drop at text) ≡ None
     letter_last l = rw (from_place text at h, drop_of_length-le text l)
 
-    pub letter_byte : at + 1 < length text → letter_of (drop at text) ≡ pick (eqb (get_or text (at + 1) 0) tab) (get_or text at 0) 0
+    pub letter_byte : at + 1 < length text → letter_of (drop at text) ≡ pick (eqb (get_or text (at + 1) 0) tab) (Some (get_or text at 0)) None
     letter_byte l = rw (from_place text at h, from_place text (at + 1) l)
 
   -- a letter has its place in the text
-  pub letter_here : (letter_of (drop at text) ≡ 0 → ⊥) → (at < length text) × (letter_of (drop at text) ≡ get_or text at 0)
-  letter_here n =
+  pub letter_here : {b : ℕ} → letter_of (drop at text) ≡ Some b → (at < length text) × (get_or text at 0 ≡ b)
+  letter_here {b} e =
       elim (dec_lt at (length text)) [
-        | no h ↦ absurd (n (letter_past (omega arith)))
+        | no h ↦ absurd (let w = sym (letter_past (omega arith)) ∙ e in cc)
         | yes h ↦ elim (dec_lt (at + 1) (length text)) [
-          | no l ↦ absurd (n (letter_last h (omega arith)))
-          | yes l ↦ (let b = letter_byte h l in (h, b ∙ picked (eqb (get_or text (at + 1) 0) tab) (λ e. n (b ∙ e))))
+          | no l ↦ absurd (let w = sym (letter_last h (omega arith)) ∙ e in cc)
+          | yes l ↦ (h, picked (eqb (get_or text (at + 1) 0) tab) (sym (letter_byte h l) ∙ e))
         ]
       ]
     where
-      picked : {b : ℕ} (t : Bool) → (pick t b 0 ≡ 0 → ⊥) → pick t b 0 ≡ b
-      picked true n = refl
-      picked false n = absurd (n refl)
+      picked : {a : ℕ} (t : Bool) → pick t (Some a) None ≡ Some b → a ≡ b
+      picked true e = cc
+      picked false e = absurd cc
 
 -- ---- the line of a place
 
@@ -166,7 +169,7 @@ module _ (text : List ℕ) (at : ℕ) where
 
 -- what is told of the field behind a place
 module _ (text : List ℕ) (at : ℕ) where
-  pub told_none : NoneBehind text at → first_field (fields_behind text at) at ≡ NoField
+  pub told_none : NoneBehind text at → first_field (fields_behind text at) at ≡ Err NoField
   told_none n = rw n.fields
 
   pub told-field : at < length text → (get_or text at 0 ≡ line_feed → ⊥) → first_field (fields_behind text at) at ≡ field_at text (at + 1)
@@ -174,17 +177,17 @@ module _ (text : List ℕ) (at : ℕ) where
   told-field h n = rw (behind-field text at h n)
 
 -- each of the three answers on a field says what its number is
-said_some : (o : Option ℕ) (stop : ℕ) {value end : ℕ} → said_up_to o stop ≡ Said value end → (o ≡ some value) × (stop ≡ end)
-said_some none stop e = absurd (let z : ◌≡◌ {A = ℕ} 0 1 = cc in omega arith)
-said_some (some n) stop {value} {end} e = let v : n ≡ value = cc in (ap some v, cc)
+said_some : (o : Option ℕ) (stop : ℕ) {n : Number} → said_up_to o stop ≡ Ok n → (o ≡ some n.value) × (stop ≡ n.end)
+said_some none stop e = absurd cc
+said_some (some m) stop {n} e = let f : ◌≡◌ {A = Number} (record { value = m; end = stop }) n = cc in (ap (λ x. some x.value) f, ap (λ x. x.end) f)
 
-said_none : (o : Option ℕ) (stop : ℕ) → said_up_to o stop ≡ SaysNone → o ≡ none
+said_none : (o : Option ℕ) (stop : ℕ) → said_up_to o stop ≡ Err NoNumber → o ≡ none
 said_none none stop e = refl
-said_none (some n) stop e = absurd (let z : ◌≡◌ {A = ℕ} 0 1 = cc in omega arith)
+said_none (some n) stop e = absurd cc
 
-said_not_end : (o : Option ℕ) (stop : ℕ) → said_up_to o stop ≡ NoField → ⊥
-said_not_end none stop e = let z : ◌≡◌ {A = ℕ} 0 1 = cc in omega arith
-said_not_end (some n) stop e = let z : ◌≡◌ {A = ℕ} 0 1 = cc in omega arith
+said_not_end : (o : Option ℕ) (stop : ℕ) → said_up_to o stop ≡ Err NoField → ⊥
+said_not_end none stop e = cc
+said_not_end (some n) stop e = cc
 
 -- a field behind a place that says a number, and what is left behind it
 pub record SaidBehind (text : List ℕ) (at value end : ℕ) : Type 0 where
@@ -196,14 +199,14 @@ pub record SaidBehind (text : List ℕ) (at value end : ℕ) : Type 0 where
   pub same_line : line_end text at ≡ line_end text end
 
 module _ (text : List ℕ) (at : ℕ) where
-  abbrev told : Field
+  abbrev told : Result Number Absent
   told = first_field (fields_behind text at) at
 
-  pub said_behind_lem : {value end : ℕ} → told ≡ Said value end → SaidBehind text at value end
+  pub said_behind_lem : {n : Number} → told ≡ Ok n → SaidBehind text at n.value n.end
   unfolding numbers_of leading
   said_behind_lem e =
       ⊎_elim
-      (λ none. absurd (let w = rw none.fields at e in let z : ◌≡◌ {A = ℕ} 0 1 = cc in omega arith))
+      (λ none. absurd (let w = rw none.fields at e in cc))
       (λ o.
       let (h, k) = o in
       let f = behind-field text at h k in
@@ -218,17 +221,25 @@ module _ (text : List ℕ) (at : ℕ) where
       }))
       (none_or_open text at)
 
+  -- the same of `ok`, as `?` reads it
+  pub said_ok : {r : Result Number Absent} {n : Number} → r ≡ told → Some n ≡ result_ok r → SaidBehind text at n.value n.end
+  said_ok {r} {n} e o = said_behind_lem (sym e ∙ go r o)
+    where
+      go : (r : Result Number Absent) → Some n ≡ result_ok r → r ≡ Ok n
+      go (Ok m) o = cc
+      go (Err why) o = absurd cc
+
   -- no number: the numbers end here, and they are not all
-  pub unsaid_behind : told ≡ SaysNone → (numbers_of (fields_behind text at) ≡ none) × (leading (fields_behind text at) ≡ [])
+  pub unsaid_behind : told ≡ Err NoNumber → (numbers_of (fields_behind text at) ≡ none) × (leading (fields_behind text at) ≡ [])
   unfolding numbers_of leading
   unsaid_behind e =
       ⊎_elim
-      (λ none. absurd (let w = rw none.fields at e in let z : ◌≡◌ {A = ℕ} 0 1 = cc in omega arith))
+      (λ none. absurd (let w = rw none.fields at e in cc))
       (λ o.
       let f = behind-field text at o.0 o.1 in
       let n = said_none (number_of (field text at)) (stop text at) (rw f at e) in
       rw (f, n) (refl, refl))
       (none_or_open text at)
 
-  pub none_behind : told ≡ NoField → NoneBehind text at
+  pub none_behind : told ≡ Err NoField → NoneBehind text at
   none_behind e = ⊎_elim (λ none. none) (λ o. absurd (said_not_end (number_of (field text at)) (stop text at) (rw (behind-field text at o.0 o.1) at e))) (none_or_open text at)

@@ -2,6 +2,7 @@
 use mathlib.Core.Path.{◌≡◌, refl, sym, ◌∙◌}
 use mathlib.Core.List.{List, [], ◌∷◌}
 use mathlib.Core.Option.{Option, none, some}
+use Rattle.std.proofs.Common.{Option as Answer, None, Some}
 use Prim.Native.Nat.{ℕ, suc, ◌+◌, ◌≤◌}
 use native.Mathlib.Numerals.{add-one}
 use native.Mathlib.Nat.{zero-add, add-zero}
@@ -11,14 +12,13 @@ use lib.Seq.{set_out, sets}
 use Rattle.counting.proofs.Places.{some_same, none_not_some}
 use Rattle.rules.specs.Bytes.{number_of, cons_onto, numbers_of}
 use Rattle.lines.specs.declared.reading.Copied.{Copied}
-use Rattle.lines.specs.declared.reading.Copied.TheVariants.{Numbers, NoNumber}
 use Rattle.lines.specs.Behind.{line_end, fields_behind, copied, in_front, leading}
 use Rattle.lines.proofs.BehindPlaces.{NoneBehind, SaidBehind}
 
 -- so many numbers and those that are left
-abbrev more : ℕ → Option (List ℕ) → ℕ → Copied
-more k none end = NoNumber
-more k (some ns) end = Numbers (k + length ns) end
+abbrev more : ℕ → Option (List ℕ) → ℕ → Answer Copied
+more k none end = None
+more k (some ns) end = Some (record { count = k + length ns; end = end })
 
 more_none : (o : Option (List ℕ)) (end : ℕ) → copied o end ≡ more 0 o end
 more_none none end = refl
@@ -66,11 +66,11 @@ module _ {text : List ℕ} {at : ℕ} {list₀ : List ℕ} {from : ℕ} {list : 
     }
 
   pub copied_none : (numbers_of (fields_behind text place) ≡ none) × (leading (fields_behind text place) ≡ [])
-      → (NoNumber ≡ copied (numbers_of (fields_behind text at)) (line_end text at)) × (list ≡ sets list₀ from (leading (fields_behind text at)))
+      → (None ≡ copied (numbers_of (fields_behind text at)) (line_end text at)) × (list ≡ sets list₀ from (leading (fields_behind text at)))
   copied_none n = (sym (c.counted ∙ rw n.0), sym (c.stored ∙ rw n.1))
 
   pub copied_all : NoneBehind text place
-      → (Numbers count place ≡ copied (numbers_of (fields_behind text at)) (line_end text at)) × (list ≡ sets list₀ from (leading (fields_behind text at)))
+      → (Some (record { count = count; end = place }) ≡ copied (numbers_of (fields_behind text at)) (line_end text at)) × (list ≡ sets list₀ from (leading (fields_behind text at)))
   unfolding numbers_of leading
   copied_all n = (sym (c.counted ∙ rw (n.fields, n.ends, add-zero)), sym (c.stored ∙ rw n.fields))
 

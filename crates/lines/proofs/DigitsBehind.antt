@@ -14,7 +14,9 @@ use Rattle.counting.specs.Count.{pick}
 use Rattle.counting.proofs.Places.{from_place}
 use Rattle.rules.specs.Sizes.{number_most}
 use Rattle.rules.specs.Bytes.{tab, line_feed, value_after, number_of}
-use Rattle.lines.specs.declared.reading.Field.TheVariants.{Number as Said, NoNumber as SaysNone}
+use Rattle.std.proofs.Common.{Ok, Err}
+use Rattle.lines.specs.declared.reading.Number.{Number}
+use Rattle.lines.specs.declared.reading.Absent.TheVariants.{NoNumber}
 use Rattle.lines.specs.Behind.{ends_here, field_rest, field_at}
 use Rattle.lines.proofs.Digits.{value_low, value_high, value_over, value_on, number_empty, number_zero, number_one, number_many}
 
@@ -90,12 +92,12 @@ module _ {text : List ℕ} {begin value i : ℕ} (r : Digits text begin value i)
   abbrev more : ℕ
   more = value * 10 + (byte - 48)
 
-  no_number : value_after value (field_rest (drop i text)) ≡ none → field_at text begin ≡ SaysNone
+  no_number : value_after value (field_rest (drop i text)) ≡ none → field_at text begin ≡ Err NoNumber
   unfolding field_at
   no_number e = rw (valueless (field_rest (drop begin text)) (r.worth ∙ e))
 
   -- a byte below the digits that does not end the field
-  pub digits_low : ends_here (drop i text) ≡ false → ((i < length text) → byte < 48) → field_at text begin ≡ SaysNone
+  pub digits_low : ends_here (drop i text) ≡ false → ((i < length text) → byte < 48) → field_at text begin ≡ Err NoNumber
   digits_low e l =
       let h = open_within text i e in
       no_number (rw (field_open text i e h) (value_low (byte ∷ field_rest (drop (i + 1) text)) 0 value (omega arith) (l h)))
@@ -104,11 +106,11 @@ module _ {text : List ℕ} {begin value i : ℕ} (r : Digits text begin value i)
     abbrev here : List ℕ
     here = byte ∷ field_rest (drop (i + 1) text)
 
-    pub digits_high : 57 < byte → field_at text begin ≡ SaysNone
+    pub digits_high : 57 < byte → field_at text begin ≡ Err NoNumber
     digits_high m = no_number (rw (digit_open text i h l) (value_high here 0 value (omega arith) l m))
 
     module _ (m : byte ≤ 57) where
-      pub digits_over : number_most < more → field_at text begin ≡ SaysNone
+      pub digits_over : number_most < more → field_at text begin ≡ Err NoNumber
       digits_over o = no_number (rw (digit_open text i h l) (value_over here 0 value (omega arith) l m o))
 
       pub digits_turn : more ≤ number_most → Digits text begin more (i + 1)
@@ -127,15 +129,15 @@ module _ {text : List ℕ} {begin value i : ℕ} (r : Digits text begin value i)
     whole_length : length whole ≡ i - begin
     whole_length = let f = r.from in omega (arith, r.ahead, ap length (field-ended (drop i text) e))
 
-    digits_none : i ≡ begin → field_at text begin ≡ SaysNone
+    digits_none : i ≡ begin → field_at text begin ≡ Err NoNumber
     unfolding field_at
     digits_none s = rw (number_empty whole (omega (arith, whole_length)))
 
-    pub digits-zero : 1 < i - begin → get_or text begin 0 ≡ 48 → field_at text begin ≡ SaysNone
+    pub digits-zero : 1 < i - begin → get_or text begin 0 ≡ 48 → field_at text begin ≡ Err NoNumber
     unfolding field_at
     digits-zero l z = rw (number_zero whole (omega (arith, whole_length)) (first_byte text begin (omega (arith, whole_length)) ∙ z))
 
-    pub digits_done : (i ≡ begin → ⊥) → (i - begin ≤ 1) ⊎ (get_or text begin 0 ≡ 48 → ⊥) → field_at text begin ≡ Said value i
+    pub digits_done : (i ≡ begin → ⊥) → (i - begin ≤ 1) ⊎ (get_or text begin 0 ≡ 48 → ⊥) → field_at text begin ≡ Ok (record { value = value; end = i })
     unfolding field_at value_after
     digits_done n z =
         let some : (length whole ≡ 0 → ⊥) = (λ s. n (omega (arith, whole_length, r.from, s))) in
@@ -155,18 +157,18 @@ module _ (text : List ℕ) (begin : ℕ) where
   abbrev start : Digits text begin 0 begin
   start = digits-start text begin
 
-  pub no_first : length text ≤ begin → field_at text begin ≡ SaysNone
+  pub no_first : length text ≤ begin → field_at text begin ≡ Err NoNumber
   no_first h = digits_none start (ends_past text begin h) refl
 
-  pub first_low : get_or text begin 0 < 48 → field_at text begin ≡ SaysNone
+  pub first_low : get_or text begin 0 < 48 → field_at text begin ≡ Err NoNumber
   first_low l = go (ends_here (drop begin text)) refl
     where
-      go : (t : Bool) → ends_here (drop begin text) ≡ t → field_at text begin ≡ SaysNone
+      go : (t : Bool) → ends_here (drop begin text) ≡ t → field_at text begin ≡ Err NoNumber
       go true e = digits_none start e refl
       go false e = digits_low start e (λ h. l)
 
   module _ (h : begin < length text) (l : 48 ≤ get_or text begin 0) where
-    pub first_high : 57 < get_or text begin 0 → field_at text begin ≡ SaysNone
+    pub first_high : 57 < get_or text begin 0 → field_at text begin ≡ Err NoNumber
     first_high m = digits_high start h l m
 
     pub first_digit : get_or text begin 0 ≤ 57 → Digits text begin (get_or text begin 0 - 48) (begin + 1)

@@ -14,8 +14,11 @@ use lib.Seq.{drop-drop}
 use Rattle.counting.specs.Count.{pick}
 use Rattle.counting.proofs.Places.{some_same, none_not_some, from_place}
 use Rattle.rules.specs.Bytes.{tab, line_feed, number_of, cons_onto, numbers_of, split, begins}
-use Rattle.lines.specs.declared.reading.Field.{Field}
-use Rattle.lines.specs.declared.reading.Field.TheVariants.{Number as Says, NoNumber as SaysNone, NoField}
+use Rattle.std.proofs.Common.{Option as Answer, None, Some, Result, Ok, Err}
+use Rattle.std.specs.Result.{result_ok}
+use Rattle.lines.specs.declared.reading.Number.{Number}
+use Rattle.lines.specs.declared.reading.Absent.{Absent}
+use Rattle.lines.specs.declared.reading.Absent.TheVariants.{NoNumber, NoField}
 use Rattle.lines.specs.Pieces.{before, pieces_after}
 use Rattle.lines.specs.Behind.{letter_of, line_rest, line_end, fields_behind, first_field, field_rest}
 use Rattle.lines.proofs.BehindPlaces.{split_rest, letter_here, NoneBehind, behind_end, behind_feed, behind-field, end_on, unsaid_behind, none_behind}
@@ -31,6 +34,11 @@ pub record ByLetter {A : Type 0} (nothing : A) (of_fields : List (List ℕ) → 
   pub alone : (b : ℕ) → of_letter b (some []) ≡ nothing
   pub part : (b : ℕ) (o : Option (List ℕ)) → b ≤ line_feed → of_letter b o ≡ nothing
 
+-- what is said by a letter, if there is one, and by the numbers behind it
+abbrev pub lettered : {A : Type 0} → A → (ℕ → Option (List ℕ) → A) → Answer ℕ → Option (List ℕ) → A
+lettered nothing of_letter None o = nothing
+lettered nothing of_letter (Some b) o = of_letter b o
+
 module _ {A : Type 0} {nothing : A} {of_fields : List (List ℕ) → A} {of_letter : ℕ → Option (List ℕ) → A} (l : ByLetter nothing of_fields of_letter) where
   -- behind a first byte
   abbrev behind_first : List ℕ → Option (List ℕ)
@@ -38,48 +46,49 @@ module _ {A : Type 0} {nothing : A} {of_fields : List (List ℕ) → A} {of_lett
 
   -- the first field is one byte in front of a tab, or there is no letter
   abbrev First : List ℕ → Type 0
-  First bs = of_fields (field_rest bs ∷ pieces_after tab (line_rest (drop (length (field_rest bs)) bs))) ≡ of_letter (letter_of bs) (behind_first bs)
+  First bs = of_fields (field_rest bs ∷ pieces_after tab (line_rest (drop (length (field_rest bs)) bs))) ≡ lettered nothing of_letter (letter_of bs) (behind_first bs)
 
-  part_letter : (b : ℕ) (t : Bool) (o : Option (List ℕ)) → b ≤ line_feed → of_letter (pick t b 0) o ≡ nothing
+  part_letter : (b : ℕ) (t : Bool) (o : Option (List ℕ)) → b ≤ line_feed → lettered nothing of_letter (pick t (Some b) None) o ≡ nothing
   part_letter b true o h = l.part b o h
-  part_letter b false o h = l.part 0 o (omega arith)
+  part_letter b false o h = refl
 
   module _ (bs : List ℕ) where
-    first_empty : field_rest bs ≡ [] → of_letter (letter_of bs) (behind_first bs) ≡ nothing → First bs
+    first_empty : field_rest bs ≡ [] → lettered nothing of_letter (letter_of bs) (behind_first bs) ≡ nothing → First bs
     first_empty e w = rw e (l.empty _ ∙ sym w)
 
-    first_byte : (b : ℕ) → field_rest bs ≡ b ∷ [] → of_letter b (behind_first bs) ≡ of_letter (letter_of bs) (behind_first bs) → First bs
+    first_byte : (b : ℕ) → field_rest bs ≡ b ∷ [] → of_letter b (behind_first bs) ≡ lettered nothing of_letter (letter_of bs) (behind_first bs) → First bs
     first_byte b e w = rw e (l.one b _ ∙ w)
 
-    first_longer : (b c : ℕ) (ds : List ℕ) → field_rest bs ≡ b ∷ c ∷ ds → of_letter (letter_of bs) (behind_first bs) ≡ nothing → First bs
+    first_longer : (b c : ℕ) (ds : List ℕ) → field_rest bs ≡ b ∷ c ∷ ds → lettered nothing of_letter (letter_of bs) (behind_first bs) ≡ nothing → First bs
     first_longer b c ds e w = rw e (l.longer b c ds _ ∙ sym w)
 
   by_first : (bs : List ℕ) → First bs
   unfolding field_rest line_rest before numbers_of
-  by_first [] = first_empty [] refl (l.part 0 _ (omega arith))
+  by_first [] = first_empty [] refl refl
   by_first (b ∷ []) = go (eqb b tab) refl (eqb b line_feed) refl
     where
       go : (t : Bool) → eqb b tab ≡ t → (f : Bool) → eqb b line_feed ≡ f → First (b ∷ [])
-      go true p f q = first_empty (b ∷ []) (rw p) (l.alone 0)
-      go false p true q = first_empty (b ∷ []) (rw (p, q)) (l.alone 0)
-      go false p false q = first_byte (b ∷ []) b (rw (p, q)) (l.alone b ∙ sym (l.alone 0))
+      go true p f q = first_empty (b ∷ []) (rw p) refl
+      go false p true q = first_empty (b ∷ []) (rw (p, q)) refl
+      go false p false q = first_byte (b ∷ []) b (rw (p, q)) (l.alone b)
   by_first (b ∷ c ∷ bs) = go (eqb b tab) refl (eqb b line_feed) refl (eqb c tab) refl (eqb c line_feed) refl
     where
       go : (t : Bool) → eqb b tab ≡ t → (f : Bool) → eqb b line_feed ≡ f → (u : Bool) → eqb c tab ≡ u → (g : Bool) → eqb c line_feed ≡ g → First (b ∷ c ∷ bs)
       go true p f q u r g s = first_empty (b ∷ c ∷ bs) (rw p) (part_letter b (eqb c tab) (behind_first (b ∷ c ∷ bs)) (omega (arith, eqb-true b tab p)))
       go false p true q u r g s = first_empty (b ∷ c ∷ bs) (rw (p, q)) (part_letter b (eqb c tab) (behind_first (b ∷ c ∷ bs)) (omega (arith, eqb-true b line_feed q)))
       go false p false q true r g s = first_byte (b ∷ c ∷ bs) b (rw (p, q, r)) (rw r)
-      go false p false q false r true s = first_byte (b ∷ c ∷ bs) b (rw (p, q, r, s)) (rw (r, s) (l.alone b ∙ sym (l.alone 0)))
-      go false p false q false r false s = first_longer (b ∷ c ∷ bs) b c (field_rest bs) (rw (p, q, r, s)) (rw r (l.part 0 (behind_first (b ∷ c ∷ bs)) (omega arith)))
+      go false p false q false r true s = first_byte (b ∷ c ∷ bs) b (rw (p, q, r, s)) (rw (r, s) (l.alone b))
+      go false p false q false r false s = first_longer (b ∷ c ∷ bs) b c (field_rest bs) (rw (p, q, r, s)) (rw r)
 
-  pub line_letter : (text : List ℕ) (at : ℕ) → of_fields (split tab (line_rest (drop at text))) ≡ of_letter (letter_of (drop at text)) (numbers_of (fields_behind text (at + 1)))
+  pub line_letter : (text : List ℕ) (at : ℕ)
+      → of_fields (split tab (line_rest (drop at text))) ≡ lettered nothing of_letter (letter_of (drop at text)) (numbers_of (fields_behind text (at + 1)))
   unfolding fields_behind
   line_letter text at = rw (split_rest (drop at text)) (by_first (drop at text) ∙ rw (drop-drop 1 at text))
 
 -- a letter is no line feed: the line goes on behind it
-pub letter_open : (text : List ℕ) (at : ℕ) → line_feed < letter_of (drop at text) → (at < length text) × (line_end text at ≡ line_end text (at + 1))
-letter_open text at l =
-    let (h, b) = letter_here text at (λ z. omega arith) in
+pub letter_open : (text : List ℕ) (at : ℕ) {b : ℕ} → letter_of (drop at text) ≡ Some b → line_feed < b → (at < length text) × (line_end text at ≡ line_end text (at + 1))
+letter_open text at e l =
+    let (h, b) = letter_here text at e in
     (h, end_on text at h (λ f. omega arith))
 
 -- ---- a byte at a place
@@ -129,13 +138,16 @@ module _ (text : List ℕ) (at : ℕ) where
 
   -- the field behind this place, if there is one, says no number
   abbrev pub Unsaid : Type 0
-  Unsaid = (value end : ℕ) → first_field (fields_behind text at) at ≡ Says value end → ⊥
+  Unsaid = (n : Number) → first_field (fields_behind text at) at ≡ Ok n → ⊥
+
+  pub unsaid_ok : {r : Result Number Absent} → r ≡ first_field (fields_behind text at) at → None ≡ result_ok r → Unsaid
+  unsaid_ok {r} e o n f = let w : r ≡ Ok n = e ∙ f in let z = rw w at o in cc
 
   pub unsaid : Unsaid → (numbers ≡ none) ⊎ (numbers ≡ some [])
   unfolding numbers_of
   unsaid n = go (first_field (fields_behind text at) at) refl
     where
-      go : (f : Field) → first_field (fields_behind text at) at ≡ f → (numbers_of (fields_behind text at) ≡ none) ⊎ (numbers_of (fields_behind text at) ≡ some [])
-      go (Says value end) e = absurd (n value end e)
-      go SaysNone e = inl (unsaid_behind text at e).0
-      go NoField e = inr (rw (none_behind text at e).fields)
+      go : (f : Result Number Absent) → first_field (fields_behind text at) at ≡ f → (numbers_of (fields_behind text at) ≡ none) ⊎ (numbers_of (fields_behind text at) ≡ some [])
+      go (Ok said) e = absurd (n said e)
+      go (Err NoNumber) e = inl (unsaid_behind text at e).0
+      go (Err NoField) e = inr (rw (none_behind text at e).fields)

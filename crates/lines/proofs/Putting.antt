@@ -1,10 +1,12 @@
 -- Texts written one after another: both together are written, and what is left of the whole after the first is the second.
 use mathlib.Core.Path.{◌≡◌, sym, ◌∙◌}
 use mathlib.Core.List.{List, [], ◌∷◌, ◌++◌}
-use Prim.Native.Nat.{ℕ, suc, ◌+◌}
+use Prim.Native.Nat.{ℕ, suc, ◌+◌, ◌≤◌, ◌<◌}
 use native.Mathlib.Omega.{arith}
-use lib.ListN.{length, set, length-append}
+use lib.ListN.{length, get_or, drop, set, length-append, drop_of_length-le}
 use lib.Seq.{sets}
+use Rattle.counting.proofs.Places.{from_place}
+use Rattle.rules.specs.Bytes.{tab, line_feed, decimal, fields_text, line_text}
 use Rattle.lines.specs.Put.{Put}
 
 sets-append : (l : List ℕ) (at : ℕ) (xs ys : List ℕ) → sets l at (xs ++ ys) ≡ sets (sets l at xs) (at + length xs) ys
@@ -23,3 +25,25 @@ module _ {before between after xs ys : List ℕ} {at middle next : ℕ} where
     stored = q.stored ∙ rw (p.stored, p.past) (sets-append before at xs ys);
     past = omega (arith, p.past, q.past, length-append xs ys);
   }
+
+-- ---- a line
+
+-- behind the letter and the numbers before the k-th, the fields of those from there on make the line
+pub record FieldsLeft (before : List ℕ) (at letter : ℕ) (numbers room : List ℕ) (place k : ℕ) : Type 0 where
+  pub rest : {after : List ℕ} {next : ℕ} → Put room place (fields_text (drop k numbers)) after next → Put before at (line_text letter numbers) after next
+
+pub fields_start : {before room : List ℕ} {at letter place : ℕ} (numbers : List ℕ) → Put before at (letter ∷ []) room place
+    → FieldsLeft before at letter numbers room place 0
+unfolding line_text
+fields_start numbers p = record { rest = λ q. put_then p q }
+
+module _ {before : List ℕ} {at letter : ℕ} {numbers room : List ℕ} {place k : ℕ} (w : FieldsLeft before at letter numbers room place k) where
+  pub fields_turn : {after : List ℕ} {next : ℕ} → k < length numbers → Put room place (tab ∷ decimal (get_or numbers k 0)) after next
+      → FieldsLeft before at letter numbers after next (k + 1)
+  unfolding fields_text
+  fields_turn h p = record { rest = λ q. w.rest (rw (from_place numbers k h) (put_then p q)) }
+
+  pub fields_done : {after : List ℕ} {next : ℕ} → length numbers ≤ k → Put room place (line_feed ∷ []) after next
+      → Put before at (line_text letter numbers) after next
+  unfolding fields_text
+  fields_done h p = w.rest (rw (drop_of_length-le numbers {i = k} h) p)

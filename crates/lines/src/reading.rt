@@ -18,7 +18,7 @@ const NUMBER_MOST: u32 = 65535;
 const LINE_MOST: u32 = 4294967295;
 
 // Where a line begins, and its number.
-#[derive(Clone, Copy)]
+#[derive(Clone, Copy, Debug, PartialEq, Eq)]
 pub struct Lines {
     pub at: usize,
     pub line: u32,
@@ -50,10 +50,16 @@ impl Lines {
     }
 }
 
-// The field after one that ends at a place: its number and where it ends.
-#[derive(Clone, Copy)]
-pub enum Field {
-    Number { value: u16, end: usize },
+// A number that a field says, and where the field ends.
+#[derive(Clone, Copy, Debug, PartialEq, Eq)]
+pub struct Number {
+    pub value: u16,
+    pub end: usize,
+}
+
+// Why there is none: the field says no number, or the line has no further field.
+#[derive(Clone, Copy, Debug, PartialEq, Eq)]
+pub enum Absent {
     NoNumber,
     NoField,
 }
@@ -69,17 +75,21 @@ pub fn begins_at(text: &[u8], at: usize, byte: u8) -> bool
     }
 }
 
-// The byte at a place, if a tab stands behind it, else 0.
-pub fn letter_at(text: &[u8], at: usize) -> u8
+// The byte at a place, if a tab stands behind it.
+pub fn letter_at(text: &[u8], at: usize) -> Option<u8>
     ensures { result ≡ letter_of (drop at text.now) }
 {
     if at >= text.len() {
-        return 0;
+        return None;
     }
     if text.len() - at < 2 {
-        return 0;
+        return None;
     }
-    if text[at + 1] == TAB { text[at] } else { 0 }
+    if text[at + 1] == TAB {
+        Some(text[at])
+    } else {
+        None
+    }
 }
 
 // Whether a field ends at a place: at a tab, at a line feed or at the end of the text.
@@ -95,18 +105,18 @@ fn ends_at(text: &[u8], at: usize) -> bool
 
 // The number of the field that begins at a place of a text, and where the field ends. The first digit is read by itself, so that the loop
 // has nothing to tell apart.
-fn number_at(text: &[u8], begin: usize) -> Field
+fn number_at(text: &[u8], begin: usize) -> Result<Number, Absent>
     ensures { result ≡ field_at text.now begin }
 {
     if begin >= text.len() {
-        return Field::NoNumber;
+        return Err(Absent::NoNumber);
     }
     let first = text[begin];
     if first < ZERO {
-        return Field::NoNumber;
+        return Err(Absent::NoNumber);
     }
     if first > NINE {
-        return Field::NoNumber;
+        return Err(Absent::NoNumber);
     }
     let mut value: u32 = (first - ZERO) as u32;
     let mut i = begin + 1;
@@ -116,48 +126,49 @@ fn number_at(text: &[u8], begin: usize) -> Field
             break;
         }
         if digit > NINE {
-            return Field::NoNumber;
+            return Err(Absent::NoNumber);
         }
         value = value * 10 + (digit - ZERO) as u32;
         if value > NUMBER_MOST {
-            return Field::NoNumber;
+            return Err(Absent::NoNumber);
         }
         i += 1;
     }
     if !ends_at(text, i) {
-        return Field::NoNumber;
+        return Err(Absent::NoNumber);
     }
     if i - begin > 1 && first == ZERO {
-        return Field::NoNumber;
+        return Err(Absent::NoNumber);
     }
-    Field::Number {
+    Ok(Number {
         value: value as u16,
         end: i,
-    }
+    })
 }
 
 // The field behind one that ends at a place of a text, in the same line.
-pub fn field_behind(text: &[u8], at: usize) -> Field
+pub fn field_behind(text: &[u8], at: usize) -> Result<Number, Absent>
     ensures { result ≡ first_field (fields_behind text.now at) at }
 {
     if at >= text.len() {
-        return Field::NoField;
+        return Err(Absent::NoField);
     }
     if text[at] == LINE_FEED {
-        return Field::NoField;
+        return Err(Absent::NoField);
     }
     number_at(text, at + 1)
 }
 
-// How many fields follow in the line, if each says a number, and where the line ends.
-#[derive(Clone, Copy)]
-pub enum Copied {
-    Numbers { count: usize, end: usize },
-    NoNumber,
+// How many numbers stand behind a place, and where their line ends.
+#[derive(Clone, Copy, Debug, PartialEq, Eq)]
+pub struct Copied {
+    pub count: usize,
+    pub end: usize,
 }
 
-// Copies the numbers behind a place, up to a field that says none, into a list from a place on, as far as the list goes.
-pub fn copy_behind(text: &[u8], at: usize, list: &mut [u16], from: usize) -> Copied
+// Copies the numbers behind a place, up to a field that says none, into a list from a place on, as far as the list goes. None where a
+// field of the line says no number.
+pub fn copy_behind(text: &[u8], at: usize, list: &mut [u16], from: usize) -> Option<Copied>
     ensures { (result ≡ copied (numbers_of (fields_behind text.now at)) (line_end text.now at))
         × (list.new ≡ sets list.old from (leading (fields_behind text.now at))) }
 {
@@ -165,22 +176,17 @@ pub fn copy_behind(text: &[u8], at: usize, list: &mut [u16], from: usize) -> Cop
     let mut count: usize = 0;
     let mut next = from;
     loop {
-        let field = field_behind(text, place);
-        match field {
-            Field::Number { value, end } => {
+        match field_behind(text, place) {
+            Ok(number) => {
                 count += 1;
-                place = end;
+                place = number.end;
                 if next < list.len() {
-                    list[next] = value;
+                    list[next] = number.value;
                     next += 1;
                 }
             }
-            Field::NoNumber => {
-                return Copied::NoNumber;
-            }
-            Field::NoField => {
-                return Copied::Numbers { count, end: place };
-            }
+            Err(Absent::NoNumber) => return None,
+            Err(Absent::NoField) => return Some(Copied { count, end: place }),
         }
     }
 }

@@ -1,8 +1,12 @@
 // Numbers and lines written into a lent list of bytes, from a place on. A byte past the list's end goes nowhere, so a text fits
 // any list, and what it writes into a list that is too short still tells how long it is.
-ghost use Rattle.std.specs.Prelude.{[], ◌∷◌, ◌+◌, ◌^◌, ◌≤◌, ◌<◌};
+ghost use Rattle.std.specs.Prelude.{[], ◌∷◌, ◌+◌, ◌^◌, ◌≤◌, ◌<◌, nat_lt};
+ghost use Rattle.std.specs.Bool.{OnTrue};
 ghost use Rattle.rules.specs.Bytes.{tab, decimal, line_text};
 ghost use Rattle.lines.specs.Put.{Put, longest_line};
+
+// A line has fewer numbers.
+const NUMBERS_MOST: usize = 4294967296;
 
 // Writes a byte, and gives the place after it.
 fn byte(room: &mut [u8], at: usize, b: u8) -> usize
@@ -39,38 +43,18 @@ fn field(room: &mut [u8], at: usize, n: u32) -> usize
     number(room, digits, n)
 }
 
-// Writes a line of a letter and two numbers.
-pub fn line_of_two(room: &mut [u8], at: u32, letter: u8, a: u32, b: u32) -> usize
-    ensures put { Put room.old at (line_text letter (a ∷ b ∷ [])) room.new result }
-    ensures near { result ≤ at + longest_line 2 }
+// Writes a line of a letter and numbers. A line that would end past the last place has no end to tell of; nothing is written for one of
+// so many numbers.
+pub fn line<const N: usize>(room: &mut [u8], at: u32, letter: u8, numbers: [u32; N]) -> usize
+    ensures put { OnTrue (nat_lt N (2 ^ 32)) (Put room.old at (line_text letter numbers.entry) room.new result) }
+    ensures near { result ≤ at + longest_line N }
 {
-    let first = byte(room, at as usize, letter);
-    let second = field(room, first, a);
-    let last = field(room, second, b);
-    byte(room, last, b'\n')
-}
-
-// Writes a line of a letter and three numbers.
-pub fn line_of_three(room: &mut [u8], at: u32, letter: u8, a: u32, b: u32, c: u32) -> usize
-    ensures put { Put room.old at (line_text letter (a ∷ b ∷ c ∷ [])) room.new result }
-    ensures near { result ≤ at + longest_line 3 }
-{
-    let first = byte(room, at as usize, letter);
-    let second = field(room, first, a);
-    let third = field(room, second, b);
-    let last = field(room, third, c);
-    byte(room, last, b'\n')
-}
-
-// Writes a line of a letter and four numbers.
-pub fn line_of_four(room: &mut [u8], at: u32, letter: u8, a: u32, b: u32, c: u32, d: u32) -> usize
-    ensures put { Put room.old at (line_text letter (a ∷ b ∷ c ∷ d ∷ [])) room.new result }
-    ensures near { result ≤ at + longest_line 4 }
-{
-    let first = byte(room, at as usize, letter);
-    let second = field(room, first, a);
-    let third = field(room, second, b);
-    let fourth = field(room, third, c);
-    let last = field(room, fourth, d);
-    byte(room, last, b'\n')
+    if N >= NUMBERS_MOST {
+        return at as usize;
+    }
+    let mut place = byte(room, at as usize, letter);
+    for n in numbers {
+        place = field(room, place, n);
+    }
+    byte(room, place, b'\n')
 }

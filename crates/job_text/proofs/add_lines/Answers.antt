@@ -1,67 +1,33 @@
 -- Each turn takes the line at the cursor, and a refusal of it refuses the whole.
-use Rattle.std.proofs.Common.{◌≡◌, sym, ap, ◌∙◌, ◌<◌, length, arith}
-use Rattle.rules.specs.JobText.{with_line}
-use Rattle.lines.specs.Behind.{line_end}
+use Rattle.std.proofs.Common.{◌≡◌, Err, rules, arith}
 use Rattle.lines.proofs.BehindPlaces.{rest-length}
-use Rattle.job.specs.declared.Verdict.TheVariants.{Fine}
-use Rattle.job_text.specs.declared.Reading.TheVariants.{Read}
-use Rattle.job_text.specs.Told.{Lists, lists}
-use Rattle.job_text.specs.LineInText.{said_at}
-use Rattle.job_text.specs.SoFar.{so_far, counted_of, if_fine, Took}
+use Rattle.job_text.specs.Told.{lists_in, SameLengths}
 use Rattle.job_text.proofs.OneLine.{told_from}
-use Rattle.job_text.proofs.LineByLine.{SameLengths, going_end, going_refused, found_end, moved_at, going_on}
+use Rattle.job_text.proofs.LineByLine.{going_bad, going_refused, going_on, going_end, moved_at}
 use Rattle.job_text.proofs.add_lines.Goals as goal
-use Rattle.job_text.proofs.add_lines.Goals.{After-add_line-verdict}
 
-module _ (c : After-add_line-verdict) where
-  -- the lists after the line
-  abbrev after : Lists
-  after =
-      let n = c.add_line-verdict.new in
-      lists n.origins n.ends n.sources n.stops c.line_at-found.new.hops
+pub returns-in_default-clause-took : goal.returns-in_default-clause-took
+returns-in_default-clause-took c = going_bad c.loop-cursor.invariant.0 c.loop-cursor-test.true c.in_default.ensures.told
 
-  -- are as long as before
-  kept : let l = c.loop-cursor in SameLengths (lists l.origins l.ends l.sources l.stops l.hops) after
-  kept =
-      let k = c.add_line-verdict.auto in
-      record { origins = k.origins; ends = k.ends; sources = k.sources; stops = k.stops; hops = c.line_at-found.auto.hops }
-
-  -- what the line leads to
-  took : let l = c.loop-cursor in
-      let hops = c.line_at-found.new.hops in
-      Took (with_line l.cursor.line (so_far l.job (lists l.origins l.ends l.sources l.stops hops)) (said_at c.args.text.now l.cursor.at))
-      (if_fine c.add_line-verdict.result (counted_of l.job c.line_at-found.result.line)) after
-  took = c.add_line-verdict.ensures _ (told_from c.line_at-found.ensures.0.line c.wide.ensures)
-
-  -- a line that is taken: its counts, and where it ends
-  module _ (d : c.add_line-verdict.result ≡ Fine) where
-    fine : let more = counted_of c.loop-cursor.job c.line_at-found.result.line in if_fine c.add_line-verdict.result more ≡ Read more
-    fine = rw d
-
-    ended : let end = c.line_at-found.result.end in (end ≡ line_end c.args.text.now c.loop-cursor.cursor.at) × (end < length c.args.text.now)
-    ended = let f = c.line_at-found.ensures in found_end c.loop-cursor.invariant c.loop-cursor-test.true f.0 f.1 c.wide.ensures took fine
-
-pub returns-in-Refused : goal.returns-in-Refused
-returns-in-Refused c =
-    let f = c.line_at-found.ensures in
-    let a = (goal.at.returns-in-Refused c).After-add_line-verdict in
-    going_refused c.loop-cursor.invariant c.loop-cursor-test.true f.0 f.1 c.wide.ensures (took a) {last = after a} (rw c.in-Refused.is)
-
-pub overflow_add-found : goal.overflow_add-found
-overflow_add-found c =
-    omega (arith, (ended (goal.at.overflow_add-found c).After-add_line-verdict c.in_default.is).1, c.loop-cursor.invariant.short)
+pub returns-in_err-add_line-clause-took : goal.returns-in_err-add_line-clause-took
+returns-in_err-add_line-clause-took c =
+    let e : c.from_residual.result ≡ Err c.in_err-add_line.field-0.0 = search rules in
+    let f = c.in-Some.ensures in
+    rw e (going_refused c.loop-cursor.invariant.0 c.loop-cursor-test.true c.line_at.new.hops f.before c.from.ensures (c.in_err-add_line.ensures.took _ (told_from f.told.line c.from.ensures)))
 
 pub loop-cursor-smaller : goal.loop-cursor-smaller
 loop-cursor-smaller c =
-    let e = ended (goal.at.loop-cursor-smaller c).After-add_line-verdict c.in_default.is in
-    omega (arith, moved_at c.moved-cursor.ensures, e.0, e.1, rest-length c.args.text.now c.loop-cursor.cursor.at)
+    let f = c.in-Some.ensures in
+    omega (arith, moved_at c.moved-cursor.ensures, f.told.ends, f.told.fed, rest-length c.args.text.now c.loop-cursor.cursor.at)
 
 pub loop-cursor-preserved : goal.loop-cursor-preserved
 loop-cursor-preserved c =
-    let f = c.line_at-found.ensures in
-    let a = (goal.at.loop-cursor-preserved c).After-add_line-verdict in
-    going_on c.loop-cursor.invariant c.loop-cursor-test.true f.0 f.1 c.wide.ensures (took a)
-    (fine a c.in_default.is ∙ ap Read (sym c.counted-job.ensures)) (kept a) c.moved-cursor.ensures
+    let f = c.in-Some.ensures in
+    let t = c.in_ok-add_line.ensures in
+    let long : SameLengths (lists_in c.loop-cursor.lists) (lists_in c.add_line.new.lists) = search rules in (
+      going_on c.loop-cursor.invariant.0 c.loop-cursor-test.true c.line_at.new.hops f.before c.from.ensures c.in-Some.found.end (t.took _ (told_from f.told.line c.from.ensures)) c.counted-job.ensures long f.told.ends c.moved-cursor.ensures,
+      search rules,
+    )
 
-pub returns : goal.returns
-returns c = going_end c.loop-cursor.invariant c.loop-cursor-test.false
+pub returns-clause-took : goal.returns-clause-took
+returns-clause-took c = going_end c.loop-cursor.invariant.0 c.loop-cursor-test.false

@@ -1,36 +1,23 @@
 -- The first line, and then those below it.
-use Rattle.std.proofs.Common.{arith}
-use Rattle.rules.specs.JobText.{first_line}
-use Rattle.job_text.specs.Told.{lists}
-use Rattle.job_text.specs.LineInText.{said_at}
-use Rattle.job_text.specs.SoFar.{Took}
-use Rattle.job_text.proofs.LineByLine.{room_copied, first_took, first_refused, first_end, first_on, first_within}
+use Rattle.std.proofs.Common.{◌≡◌, Err, rules}
+use Rattle.job_text.specs.Told.{lists, lists_in}
+use Rattle.job_text.proofs.LineByLine.{first_bad, first_took, first_refused, first_on}
 use Rattle.job_text.proofs.read_lines.Goals as goal
-use Rattle.job_text.proofs.read_lines.Goals.{After-first_line-first}
 
--- what the line at the top leads to
-took : (c : After-first_line-first)
-    → let a = c.args in
-    Took (first_line (said_at a.text.now 0)) c.first_line-first.result
-    (lists a.origins.now a.ends.now a.sources.now a.stops.now c.line_at-found.new.hops)
-took c = first_took c.line_at-found.ensures.0.line c.first_line-first.ensures _
+pub returns-in_default-clause-took : goal.returns-in_default-clause-took
+returns-in_default-clause-took c = first_bad _ c.in_default.ensures.told
 
-pub overflow_add-found : goal.overflow_add-found
-overflow_add-found c =
-    let t = took (goal.at.overflow_add-found c).After-first_line-first in
-    omega (arith, (first_end c.line_at-found.ensures.0 t c.in-Read.is).1, c.requires.0)
+pub returns-in_err-job-clause-took : goal.returns-in_err-job-clause-took
+returns-in_err-job-clause-took c =
+    let e : c.from_residual.result ≡ Err c.in_err-job.field-0.0 = search rules in
+    rw e (first_refused _ (first_took c.in-Some.ensures.told.line c.in_err-job.ensures (lists_in c.args.lists.now)))
 
-pub add_lines-requires : goal.add_lines-requires
-add_lines-requires c =
-    let l = c.line_at-found in
-    let t = took (goal.at.add_lines-requires c).After-first_line-first in
-    let w = first_within l.ensures.0 t c.top.ensures c.moved-next.ensures c.in-Read.is in
-    (w.0, room_copied l.new.hops c.requires.1 l.auto.hops, c.requires.0, w.1)
+pub add_lines-requires-clause-within : goal.add_lines-requires-clause-within
+add_lines-requires-clause-within c = let t = first_took c.in-Some.ensures.told.line c.in_ok-job.ensures (lists_in c.args.lists.now) in t.within
 
-pub returns-in-Refused : goal.returns-in-Refused
-returns-in-Refused c = first_refused c.line_at-found.ensures.0 (took (goal.at.returns-in-Refused c).After-first_line-first) c.in-Refused.is
-
-pub returns-in-Read : goal.returns-in-Read
-returns-in-Read c =
-    let t = took (goal.at.returns-in-Read c).After-first_line-first in
-    rw (first_on c.line_at-found.ensures.0 t c.top.ensures c.moved-next.ensures c.in-Read.is) c.add_lines.ensures
+pub returns-clause-took : goal.returns-clause-took
+returns-clause-took c =
+    let l = c.args.lists.now in
+    let f = c.in-Some.ensures.told in
+    let t = first_took f.line c.in_ok-job.ensures (lists l.origins.now l.ends.now l.sources.now l.stops.now c.line_at.new.hops) in
+    rw (first_on _ t f.ends c.top.ensures c.moved-next.ensures) c.add_lines.ensures.took

@@ -4,20 +4,20 @@ use Rattle.lines.proofs.BehindPlaces.{said_behind_lem, unsaid_behind, none_behin
 use Rattle.lines.proofs.CopyingNumbers.{copying_stored, copying_past, copied_none, copied_all}
 use Rattle.lines.proofs.reading.copy_behind.Goals as goal
 
-pub loop-value-smaller-then-next-list : goal.loop-value-smaller-then-next-list
-loop-value-smaller-then-next-list c = let f = said_behind_lem _ _ (sym c.in-Number.ensures) in omega arith
+pub loop-number-smaller-then-next-list : goal.loop-number-smaller-then-next-list
+loop-number-smaller-then-next-list c = let f = said_behind_lem _ _ (sym c.in-Ok.ensures) in omega arith
 
-pub loop-value-preserved-then-next-list : goal.loop-value-preserved-then-next-list
-loop-value-preserved-then-next-list c = copying_stored c.loop-value.invariant (said_behind_lem _ _ (sym c.in-Number.ensures))
+pub loop-number-preserved-then-next-list : goal.loop-number-preserved-then-next-list
+loop-number-preserved-then-next-list c = copying_stored c.loop-number.invariant (said_behind_lem _ _ (sym c.in-Ok.ensures))
 
-pub loop-value-smaller : goal.loop-value-smaller
-loop-value-smaller c = let f = said_behind_lem _ _ (sym c.in-Number.ensures) in omega arith
+pub loop-number-smaller : goal.loop-number-smaller
+loop-number-smaller c = let f = said_behind_lem _ _ (sym c.in-Ok.ensures) in omega arith
 
-pub loop-value-preserved : goal.loop-value-preserved
-loop-value-preserved c = copying_past c.loop-value.invariant (said_behind_lem _ _ (sym c.in-Number.ensures)) c.if-next-list.false
+pub loop-number-preserved : goal.loop-number-preserved
+loop-number-preserved c = copying_past c.loop-number.invariant (said_behind_lem _ _ (sym c.in-Ok.ensures)) c.if-next-list.false
 
-pub returns-in-NoNumber : goal.returns-in-NoNumber
-returns-in-NoNumber c = copied_none c.loop-value.invariant (unsaid_behind _ _ (sym c.in-NoNumber.ensures))
+pub returns-in-Err-NoNumber : goal.returns-in-Err-NoNumber
+returns-in-Err-NoNumber c = copied_none c.loop-number.invariant (unsaid_behind _ _ (sym (rw c.in-Err-NoNumber.field-0-is at c.in-Err-NoNumber.ensures)))
 
-pub returns-in-NoField : goal.returns-in-NoField
-returns-in-NoField c = copied_all c.loop-value.invariant (none_behind _ _ (sym c.in-NoField.ensures))
+pub returns-in-Err-NoField : goal.returns-in-Err-NoField
+returns-in-Err-NoField c = copied_all c.loop-number.invariant (none_behind _ _ (sym (rw c.in-Err-NoField.field-0-is at c.in-Err-NoField.ensures)))

@@ -1,10 +1,10 @@
 -- The verdict is that of the walk that is left, and the nodes that are marked are those that the walk has visited.
 use Rattle.std.proofs.Common.{◌≡◌, ℕ, [], ◌∷◌, ◌-◌, ◌≤◌, ◌<◌, length, get_or}
 use Rattle.rules.specs.Tables.{walk}
-use Rattle.job.specs.Lists.{network_of}
+use Rattle.job.specs.Lists.{network_in}
 use Rattle.job.proofs.VerdictLoops.{walk_left}
 use Rattle.job.proofs.VisitedMarks.{VisitedBefore}
-use Rattle.job.proofs.walk.Given as goal
+use Rattle.job.proofs.Network.walk.Given as goal
 
 abbrev pub invariant-loop-p : goal.invariant-loop-p
 invariant-loop-p l =
@@ -12,7 +12,7 @@ invariant-loop-p l =
     × ((q : ℕ) → q < l.p → get_or l.path q 0 < length l.ends)
     × (length l.words ≡ 16)
     × VisitedBefore l.ends l.path l.source l.p l.words
-    × ((n : ℕ) → walk (network_of n l.origins l.ends) l.place l.source (l.source ∷ []) l.path ≡ walk_left n l.origins l.ends l.path l.source l.place l.reached l.p)
+    × (walk (network_in l.self) l.place l.source (l.source ∷ []) l.path ≡ walk_left l.self.nodes l.origins l.ends l.path l.source l.place l.reached l.p)
 
 abbrev pub decreases-loop-p : goal.decreases-loop-p
 decreases-loop-p l = length l.path - l.p

@@ -2,7 +2,7 @@
 use Rattle.std.proofs.Common.{◌≡◌, ◌-◌, ◌≤◌, length}
 use Rattle.rules.specs.Tables.{links_verdict}
 use Rattle.job.proofs.VerdictLoops.{links_left}
-use Rattle.job.proofs.links_verdict.Given as goal
+use Rattle.job.proofs.Network.links_verdict.Given as goal
 
 abbrev pub invariant-loop-l : goal.invariant-loop-l
 invariant-loop-l l = (l.l ≤ length l.origins) × (links_verdict l.nodes 0 l.origins l.ends ≡ links_left l.nodes l.origins l.ends l.l)
