@@ -2,7 +2,8 @@
 use mathlib.Core.Path.{◌≡◌, refl, sym, ap, ◌∙◌}
 use mathlib.Core.Bool.{Bool, true, false, true≢false, false≢true}
 use mathlib.Core.List.{List, [], ◌∷◌, ◌++◌, map}
-use mathlib.Core.Option.{Option, none, some}
+use mathlib.Core.Option.{Option as Maybe, none, some}
+use Rattle.std.specs.Prelude.{Option, Some, None, MatchOption}
 use Prim.Native.Nat.{ℕ, zero, suc, ◌+◌, ◌≤◌, ◌<◌}
 use native.Mathlib.Omega.{arith}
 use native.Mathlib.Numerals.{add-one}
@@ -12,17 +13,12 @@ use Rattle.counting.specs.Count.{pick}
 use Rattle.counting.proofs.Places.{some_same, none_not_some, at_below, at-get_or, at_take}
 use Rattle.rules.specs.Network.{paths_from}
 use Rattle.rules.specs.Travel.{one_step}
-use Rattle.rules.specs.Outcome.{is}
 use Rattle.rules.specs.Claims.{Claim, link_claims, Placed, place, placed, taken}
 use Rattle.rules.specs.Check.{Clash, or_else, holder, clash_with, clash_of, clash_after}
 use Rattle.theorems.proofs.Clashes.{found, found-holder}
 use Rattle.theorems.proofs.Placements.{take-placed_by, placed_by_at}
 use Rattle.theorems.proofs.Accepted.{length-paths_from}
-use Rattle.job.specs.declared.Step.{Step}
-use Rattle.planner.specs.declared.Held.{Held}
-use Rattle.planner.specs.declared.Held.TheVariants.{By, Nobody}
-use Rattle.planner.specs.declared.Checked.TheVariants.{Clear, Clash as Shown}
-use Rattle.planner.specs.Told.{held_by, checked_of, clear_or}
+use Rattle.planner.specs.Told.{held_by}
 use Rattle.planner.specs.PacketsInLists.{path_claims, path_at, packet_enters, packets, before}
 
 -- a list cut before what stands at i, and after it
@@ -54,58 +50,54 @@ module _ (stops hops starts : List ℕ) (k : ℕ) where
 
 -- ---- the holder of a link, sought from packet j on
 
-abbrev pub holder_from : (stops hops starts : List ℕ) (k link step j : ℕ) → Option ℕ
+abbrev pub holder_from : (stops hops starts : List ℕ) (k link step j : ℕ) → Maybe ℕ
 holder_from stops hops starts k link step j = holder j (drop j (before stops hops starts k)) link step
 
-module _ (stops hops starts : List ℕ) (k : ℕ) (few : k ≤ length stops) (enough : k ≤ length starts) (link step j : ℕ) where
-  holder_turn : j < k → holder_from stops hops starts k link step j ≡ pick (packet_enters stops hops starts j link step) (some j) (holder_from stops hops starts k link step (suc j))
+module _ (stops hops starts : List ℕ) (k : ℕ) (few : k ≤ length stops) (enough : k ≤ length starts) (link step : ℕ) where
+  abbrev entered_by : ℕ → Bool
+  entered_by j = packet_enters stops hops starts j link step
+
+  holder_turn : (j : ℕ) → j < k → holder_from stops hops starts k link step j ≡ pick (entered_by j) (some j) (holder_from stops hops starts k link step (suc j))
   unfolding holder packet_enters
-  holder_turn l = rw (drop-cons_at (before stops hops starts k) j there)
+  holder_turn j l = rw (drop-cons_at (before stops hops starts k) j there)
     where
       there : get_elem? (before stops hops starts k) j ≡ some (place (get_or starts j 0) (path_claims (path_at stops hops j)))
       there = rw (before-take stops hops starts k, at_take (packets stops hops starts) k j l) (packet_at stops hops starts j (omega arith) (omega arith))
 
-  pub holder-here : j < k → packet_enters stops hops starts j link step ≡ true → holder_from stops hops starts k link step j ≡ some j
-  holder-here l e = holder_turn l ∙ rw e
+  -- packets that do not enter the link in the step leave it to the next
+  holder_until : (j : ℕ) → j ≤ k → ((i : ℕ) → i < j → entered_by i ≡ false) → holder_from stops hops starts k link step 0 ≡ holder_from stops hops starts k link step j
+  holder_until zero l free = refl
+  holder_until (suc j) l free = holder_until j (omega arith) (λ i m. free i (omega arith)) ∙ holder_turn j l ∙ rw (free j (omega arith))
 
-  pub holder_later : j < k → packet_enters stops hops starts j link step ≡ false → holder_from stops hops starts k link step j ≡ holder_from stops hops starts k link step (j + 1)
-  holder_later l e = holder_turn l ∙ rw (e, add-one)
-
-  pub holder_nowhere : k ≤ j → holder_from stops hops starts k link step j ≡ none
+  holder_nowhere : holder_from stops hops starts k link step k ≡ none
   unfolding holder
-  holder_nowhere l =
-      let short : length (before stops hops starts k) ≤ j = omega (arith, ap length (before-take stops hops starts k), length-take k (packets stops hops starts)) in
+  holder_nowhere =
+      let short : length (before stops hops starts k) ≤ k = omega (arith, ap length (before-take stops hops starts k), length-take k (packets stops hops starts)) in
       rw (drop_of_length-le (before stops hops starts k) short)
+
+  -- the first that does is the holder
+  pub holder_found : (found : Option ℕ)
+      → MatchOption found ((j : ℕ) → j < k → entered_by j ≡ false) (λ j. (j < k) × (entered_by j ≡ true) × ((i : ℕ) → i < j → entered_by i ≡ false))
+      → held_by found ≡ holder 0 (before stops hops starts k) link step
+  holder_found None free = sym (holder_until k (omega arith) free ∙ holder_nowhere)
+  holder_found (Some j) (l, here, free) = sym (holder_until j (omega arith) free ∙ holder_turn j l ∙ rw here)
 
 -- a link that is not taken has no holder
 free_held : (bs : List Placed) (link step : ℕ) → taken bs link step ≡ false → holder 0 bs link step ≡ none
 free_held bs link step t = not_found _ (found-holder 0 bs link step ∙ t)
   where
-    not_found : (o : Option ℕ) → found o ≡ false → o ≡ none
+    not_found : (o : Maybe ℕ) → found o ≡ false → o ≡ none
     not_found none e = refl
     not_found (some a) e = absurd (true≢false e)
 
 -- and a clash with a holder comes before all others
-pub held_first : (k link step : ℕ) (o : Option ℕ) (p : Option Clash) → found o ≡ true → or_else (clash_with k link step o) p ≡ clash_with k link step o
+pub held_first : (k link step : ℕ) (o : Maybe ℕ) (p : Maybe Clash) → found o ≡ true → or_else (clash_with k link step o) p ≡ clash_with k link step o
 held_first k link step none p e = absurd (false≢true e)
 held_first k link step (some a) p e = refl
 
--- the clash with the holder that is told, if one is
-module _ (k link : ℕ) (step : Step) (held : Held) (o : Option ℕ) (told : held_by held ≡ o) where
-  pub clash_by_lem : (earlier : ℕ) → held ≡ By earlier → Shown k earlier link step ≡ clear_or (clash_with k link step.0 o)
-  clash_by_lem earlier e = ap (λ (q : Option ℕ). clear_or (clash_with k link step.0 q)) (sym (ap held_by e) ∙ told)
-
-  pub clash_by_nobody : held ≡ Nobody → Clear ≡ clear_or (clash_with k link step.0 o)
-  clash_by_nobody e = ap (λ (q : Option ℕ). clear_or (clash_with k link step.0 q)) (sym (ap held_by e) ∙ told)
-
--- and what the answer says of it
-pub checked-clear_or : (o : Option Clash) → checked_of (clear_or o) ≡ is o
-checked-clear_or none = refl
-checked-clear_or (some x) = refl
-
 -- ---- the clash of packet k, sought from a hop on
 
-abbrev clash_from : ℕ → List Placed → ℕ → List ℕ → ℕ → Option Clash
+abbrev clash_from : ℕ → List Placed → ℕ → List ℕ → ℕ → Maybe Clash
 clash_from k bs s path hop = clash_of k bs s (link_claims one_step hop (drop hop path))
 
 -- whether a hop's link is taken in its step
@@ -135,7 +127,7 @@ module _ (k : ℕ) (bs : List Placed) (s : ℕ) (path : List ℕ) where
 
 -- ---- the first clash, sought from packet k on
 
-abbrev pub clashes_from : List Placed → ℕ → Option Clash
+abbrev pub clashes_from : List Placed → ℕ → Maybe Clash
 clashes_from bs k = clash_after (take k bs) (drop k bs)
 
 clashes_turn : (bs : List Placed) (k : ℕ) {b : Placed} → get_elem? bs k ≡ some b → clashes_from bs k ≡ or_else (clash_of k (take k bs) b.start b.claimed) (clashes_from bs (suc k))
@@ -147,7 +139,7 @@ clashes_turn bs k e =
 
 module _ (stops hops starts : List ℕ) (same : length starts ≡ length stops) (k : ℕ) where
   -- the clash of packet k, at its own start, with those listed before it
-  abbrev pub clash_at : Option Clash
+  abbrev pub clash_at : Maybe Clash
   clash_at = clash_of k (before stops hops starts k) (get_or starts k 0) (path_claims (path_at stops hops k))
 
   pub first_turn : k < length stops → clashes_from (packets stops hops starts) k ≡ or_else clash_at (clashes_from (packets stops hops starts) (suc k))

@@ -37,7 +37,7 @@ module _ (stops hops : List ℕ) (simple : SimplePaths stops hops) (k : ℕ) (l 
   links_below i m =
       let ps = paths_from 0 stops hops in
       let own = at_mem ps k (at-get_or ps k [] (omega (arith, length-paths_from 0 stops hops))) in
-      omega (arith, (simple.simple (get_or ps k []) own).below _ (at_mem (get_or ps k []) i (at-get_or (get_or ps k []) i 0 m)), simple.links_few)
+      (simple.simple (get_or ps k []) own).below _ (at_mem (get_or ps k []) i (at-get_or (get_or ps k []) i 0 m))
 
   pub path_end : begin_from 0 stops k + length (path_at stops hops k) ≡ get_or stops k 0
   path_end =
@@ -171,7 +171,7 @@ module _ (stops hops starts : List ℕ) (k s : ℕ) (l : k < length stops) (room
 pub hops_below : (stops hops : List ℕ) → SimplePaths stops hops → Below hops links_most
 hops_below stops hops simple i m =
     let (path, own, on_path) = mem-paths 0 stops hops simple.agree (at_mem hops i (at-get_or hops i 0 m)) in
-    omega (arith, (simple.simple path own).below _ on_path, simple.links_few)
+    (simple.simple path own).below _ on_path
 
 -- there is room for all hops, and nobody has entered one
 pub entries_none : (stops hops starts firsts nexts steps : List ℕ) → length hops ≤ hops_most → Rooms (λ link. occurs link hops) firsts (length hops)

@@ -1,42 +1,56 @@
--- The step in which a packet enters a link, looked for hop by hop.
-use mathlib.Core.Path.{◌≡◌, refl, sym, ap₂}
-use mathlib.Core.List.{List, []}
-use mathlib.Core.Option.{Option, none, some}
+-- The step in which a packet enters a link: as long after its start as the link lies along its path.
+use mathlib.Core.Path.{◌≡◌, refl, sym, ap, ap₂, ◌∙◌}
+use mathlib.Core.Bool.{Bool, true, false, cond}
+use mathlib.Core.List.{List, [], ◌∷◌}
+use mathlib.Core.Option as maybe
 use Prim.Native.Nat.{ℕ, ◌+◌, ◌≤◌, ◌<◌}
+use native.Mathlib.Nat.{add_assoc, add-zero}
 use native.Mathlib.Omega.{arith}
-use native.Mathlib.Numerals.{add-one}
-use lib.ListN.{length, get_or, drop, get_elem?, drop_of_length-le}
-use lib.Seq.{drop-cons}
-use borrow.Author.Tests.{eq-eqb, ne_eqb}
+use lib.Dec.{eqb}
+use lib.ListN.{length, get_or, get_elem?}
+use Rattle.std.specs.Prelude.{Option, Some, position}
+use Rattle.std.specs.List.{position_from}
+use Rattle.std.proofs.lemmas.Iterator.Adapters.{position_from-zero}
+use Rattle.std.proofs.lemmas.List.Quantifiers.{position-Some}
+use Rattle.counting.specs.Count.{pick}
 use Rattle.counting.proofs.Places.{at-get_or, at_none}
+use Rattle.rules.specs.Sizes.{hops_most}
 use Rattle.rules.specs.Network.{paths_from}
 use Rattle.rules.specs.Travel.{one_step}
 use Rattle.rules.specs.Lead.{entry_step, entry_of, entry_at}
 use Rattle.theorems.proofs.Accepted.{length-paths_from}
-use Rattle.planner.specs.PacketsInLists.{path_at}
+use Rattle.planner.specs.PacketsInLists.{SimplePaths, path_at}
+use Rattle.planner.specs.Told.{option_of}
+use Rattle.planner.proofs.PathParts.{path-le_hops}
 
-pub no_packet : (stops hops starts : List ℕ) (link k : ℕ) → length stops ≤ k → none ≡ entry_at one_step starts (paths_from 0 stops hops) link k
-unfolding entry_at
-no_packet stops hops starts link k l = rw (at_none (paths_from 0 stops hops) k (omega (arith, length-paths_from 0 stops hops))) (sym (nowhere (get_elem? starts k)))
+-- hop by hop, of which the first is the i-th of the path
+entered_from : (link s i : ℕ) (links : List ℕ) → entry_step one_step link (s + i) links ≡ option_of (λ hop. s + hop) (position_from (λ l. eqb l link) i links)
+unfolding entry_step
+entered_from link s i [] = refl
+entered_from link s i (l ∷ ls) = either (eqb l link) _ (rw add_assoc (entered_from link s (i + 1) ls))
   where
-    nowhere : (s : Option ℕ) → entry_of one_step link s none ≡ none
-    nowhere none = refl
-    nowhere (some s) = refl
+    either : (b : Bool) {later : maybe.Option ℕ} (next : Option ℕ) → later ≡ option_of (λ hop. s + hop) next → pick b (maybe.some (s + i)) later ≡ option_of (λ hop. s + hop) (cond b (Some i) next)
+    either true next e = refl
+    either false next e = e
 
-pub entry_of_packet : (stops hops starts links : List ℕ) (link k packet : ℕ) → packet ≡ k → links ≡ path_at stops hops packet → length starts ≡ length stops → packet < length stops → entry_at one_step starts (paths_from 0 stops hops) link k ≡ entry_step one_step link (get_or starts packet 0) links
-unfolding entry_at path_at
-entry_of_packet stops hops starts links link k packet same path e l =
-    rw (← same, path) (ap₂ (entry_of one_step link) (at-get_or starts packet 0 (omega arith)) (at-get_or (paths_from 0 stops hops) packet [] (omega (arith, length-paths_from 0 stops hops))))
+module _ (stops hops starts : List ℕ) (link k : ℕ) (same : length starts ≡ length stops) {packet : ℕ} (is : packet ≡ k) where
+  pub no_packet : length starts ≤ packet → maybe.none ≡ entry_at one_step starts (paths_from 0 stops hops) link k
+  unfolding entry_at
+  no_packet l = rw (at_none starts k (omega arith))
 
-module _ (link t : ℕ) (links : List ℕ) (hop : ℕ) where
-  pub entry_here : hop < length links → get_or links hop 0 ≡ link → entry_step one_step link t (drop hop links) ≡ some t
-  unfolding entry_step
-  entry_here l e = rw (drop-cons links hop 0 l, eq-eqb (get_or links hop 0) link e)
+  module _ (l : packet < length starts) {links : List ℕ} (is_path : links ≡ path_at stops hops packet) (found : Option ℕ) (is_found : found ≡ position (λ l. eqb l link) links) where
+    pub entry_listed : option_of (λ hop. get_or starts packet 0 + hop) found ≡ entry_at one_step starts (paths_from 0 stops hops) link k
+    unfolding entry_at path_at
+    entry_listed =
+        let s = get_or starts packet 0 in
+        let ps = paths_from 0 stops hops in
+        let by_hops : option_of (λ hop. s + hop) (position (λ l. eqb l link) links) ≡ entry_step one_step link s links =
+        rw (position_from-zero (λ l. eqb l link) links) (sym (rw add-zero at (entered_from link s 0 links))) in
+        rw (is_found, ← is)
+        (by_hops ∙ rw is_path (sym (ap₂ (entry_of one_step link) (at-get_or starts packet 0 l) (at-get_or ps packet [] (omega (arith, length-paths_from 0 stops hops))))))
 
-  pub entry-onward : hop < length links → (get_or links hop 0 ≡ link → ⊥) → entry_step one_step link t (drop hop links) ≡ entry_step one_step link (t + 1) (drop (hop + 1) links)
-  unfolding entry_step
-  entry-onward l e = rw (drop-cons links hop 0 l, ne_eqb (get_or links hop 0) link e, add-one hop)
-
-  pub entry_nowhere : length links ≤ hop → entry_step one_step link t (drop hop links) ≡ none
-  unfolding entry_step
-  entry_nowhere l = rw (drop_of_length-le links l)
+    -- a hop is one of few
+    pub hop_within : SimplePaths stops hops → {hop : ℕ} → Some hop ≡ found → hop < hops_most
+    hop_within simple {hop} e =
+        let there = position-Some (λ l. eqb l link) links hop 0 (sym (e ∙ is_found)) in
+        omega (arith, there.0, ap length is_path, path-le_hops stops hops packet simple (omega arith))

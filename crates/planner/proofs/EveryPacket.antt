@@ -1,15 +1,17 @@
 -- Every packet entered at its start: then each link's entries are the steps of its hops, in order.
 use mathlib.Core.Path.{◌≡◌, refl, sym, ap, ◌∙◌}
+use mathlib.Core.Bool.{true, false}
 use mathlib.Core.List.{List, [], ◌∷◌, ◌++◌, map, append-nil}
 use mathlib.Core.Logic.{⊎_elim}
 use Prim.Native.Nat.{ℕ, zero, suc, ◌+◌, ◌-◌, ◌*◌, ◌≤◌, ◌<◌}
 use native.Mathlib.Nat.{eq-or-lt_of_le}
 use native.Mathlib.Numerals.{add-one}
 use native.Mathlib.Omega.{arith}
-use lib.Dec.{eqb}
+use lib.Dec.{eqb, leb}
 use lib.ListN.{length, get_or, take, drop, length-append, length-drop, drop_of_length-le, get_or-append}
 use lib.Seq.{take_all, take-add, get_or-drop}
-use borrow.Author.Tests.{ne_eqb}
+use borrow.Author.Tests.{ne_eqb, leb-true, leb-false}
+use Rattle.std.specs.List.Sorted.{IsPartitionPoint}
 use Rattle.counting.specs.Count.{bit, occurs}
 use Rattle.counting.proofs.Sums.{sum_append}
 use Rattle.counting.proofs.Places.{at-get_or, at_mem}
@@ -19,7 +21,7 @@ use Rattle.rules.specs.Travel.{one_step}
 use Rattle.rules.specs.Claims.{place}
 use Rattle.theorems.proofs.Accepted.{length-paths_from, hops_from}
 use Rattle.marks.specs.Marks.{unmarked}
-use Rattle.planner.specs.PacketsInLists.{SimplePaths, InTime, path_claims, begin_from, path_at, packets}
+use Rattle.planner.specs.PacketsInLists.{SimplePaths, InTime, OnPath, path_claims, begin_from, path_at, packets}
 use Rattle.planner.specs.Entries.{widest, Below, OnLinks, steps_on, Enterable, EntriesBefore}
 use Rattle.planner.specs.Again.{InOrder}
 use Rattle.planner.specs.Cuts.{Cuttable}
@@ -40,9 +42,20 @@ begin_end stops hops simple =
     let every : take (length stops) ps ≡ ps = take_all (length stops) ps (omega (arith, length-paths_from 0 stops hops)) in
     omega (arith, rw every at (hops_before 0 stops hops (length stops) simple.agree (omega arith)), hops_from 0 stops hops simple.agree)
 
--- a packet that begins before a hop is listed
-pub packet_listed : (stops : List ℕ) (hop k : ℕ) → hop < begin_from 0 stops (length stops) → k ≤ length stops → begin_from 0 stops k ≤ hop → k < length stops
-packet_listed stops hop k l m begun = ⊎_elim (λ q. omega (arith, rw q at begun)) (λ less. less) (eq-or-lt_of_le m)
+-- a hop is on the path of the packet before which all stop at it or before, if those from there on do not
+pub on_path_of : {stops hops : List ℕ} {hop k : ℕ} → SimplePaths stops hops → hop < length hops → k ≤ length stops
+    → IsPartitionPoint (λ stop. leb stop hop ≡ true) (λ stop. leb stop hop ≡ false) stops k → OnPath stops hop k
+on_path_of {stops} {hops} {hop} {k} simple l near point = record { listed = listed; begun = begun k refl; ahead = ahead }
+  where
+    begun : (j : ℕ) → j ≡ k → begin_from 0 stops j ≤ hop
+    begun zero e = omega arith
+    begun (suc j) e = leb-true (get_or stops j 0) hop (point.0 j 0 (omega arith) (omega arith))
+
+    listed : k < length stops
+    listed = ⊎_elim (λ q. omega (arith, rw q at (begun k refl), begin_end stops hops simple)) (λ less. less) (eq-or-lt_of_le near)
+
+    ahead : hop < get_or stops k 0
+    ahead = leb-false (get_or stops k 0) hop (point.1 k 0 (omega arith) listed)
 
 module _ (stops hops starts : List ℕ) (simple : SimplePaths stops hops) (same : length starts ≡ length stops) where
   -- up to where packet k begins they are those of the packets before it

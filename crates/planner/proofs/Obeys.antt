@@ -2,6 +2,7 @@
 use mathlib.Core.Path.{◌≡◌, refl, sym, ap, ◌∙◌}
 use mathlib.Core.List.{List}
 use Prim.Native.Nat.{ℕ, ◌≤◌}
+use Rattle.std.specs.Prelude.{Ok}
 use lib.ListN.{length, take}
 use lib.Seq.{take-append_seam, take-take}
 use Rattle.rules.specs.Network.{Job, paths, packets}
@@ -16,11 +17,10 @@ use Rattle.theorems.proofs.AnswersInARow.{planned-iff}
 use Rattle.theorems.proofs.Accepted.{tables-fine-iff, length-packets}
 use Rattle.theorems.proofs.Starts.{length-greedy, greedy-Starts, greedy-front-packets}
 use Rattle.theorems.proofs.Demands.{tables_bounded}
-use Rattle.job.specs.declared.Verdict.TheVariants.{Fine}
 use Rattle.planner.specs.Told.{PlannedAs}
 
 -- the planner said that all is fine
-module _ (j : Job) (room : ℕ) (lent after : List ℕ) (p : PlannedAs (planned j room) Fine lent after) where
+module _ (j : Job) (room : ℕ) (lent after : List ℕ) (p : PlannedAs (planned j room) (Ok tt) lent after) where
   pub planned-greedy : (tables j ≡ fine) × (planned j room ≡ is (greedy j))
   planned-greedy = go (planned j room) refl p.verdict
     where
@@ -45,10 +45,10 @@ module _ (j : Job) (room : ℕ) (lent after : List ℕ) (p : PlannedAs (planned 
 
 -- what is listed later moves nothing: two plans on one network whose first n packets are alike have their first n starts alike
 pub plan_front : (j k : Job) (room other : ℕ) {lent after lent' after' : List ℕ}
-    → PlannedAs (planned j room) Fine lent after → PlannedAs (planned k other) Fine lent' after'
+    → PlannedAs (planned j room) (Ok tt) lent after → PlannedAs (planned k other) (Ok tt) lent' after'
     → (n : ℕ) → n ≤ length (paths j) → n ≤ length (paths k) → j.network ≡ k.network → take n (packets j) ≡ take n (packets k)
     → take n after ≡ take n after'
 plan_front j k room other p q n l m same e = front j room p l ∙ greedy-front-packets j k n same e ∙ sym (front k other q m)
   where
-    front : (i : Job) (places : ℕ) {lent after : List ℕ} → PlannedAs (planned i places) Fine lent after → n ≤ length (paths i) → take n after ≡ take n (greedy i)
+    front : (i : Job) (places : ℕ) {lent after : List ℕ} → PlannedAs (planned i places) (Ok tt) lent after → n ≤ length (paths i) → take n after ≡ take n (greedy i)
     front i places {lent} {after} w h = sym (take-take n (length (paths i)) after h) ∙ ap (take n) (plan_writes_greedy i places lent after w)

@@ -10,6 +10,7 @@ use lib.ListN.{length, get_or, take}
 use lib.Seq.{length-slice}
 use Rattle.counting.specs.Count.{sum_of}
 use Rattle.counting.proofs.Places.{at-get_or, at_mem, mem-take}
+use Rattle.rules.specs.Sizes.{links_most}
 use Rattle.rules.specs.Network.{paths_from}
 use Rattle.rules.specs.Tables.{stops_agree}
 use Rattle.rules.specs.Travel.{one_step}
@@ -45,7 +46,7 @@ start-le_begin stops hops starts k h l =
     let own = at_mem ps k (at-get_or ps k [] (omega (arith, length-paths_from 0 stops hops))) in
     omega (
       arith,
-      links_start-le-meetings one_step h.links (take k starts) qs p _ (λ q m. h.simple q (mem-take k ps m)) (h.simple p own) (first_free_is (placed_by path_claims (take k starts) qs) (path_claims p)),
-      meetings-le_hops h.links qs p,
+      links_start-le-meetings one_step links_most (take k starts) qs p _ (λ q m. h.simple q (mem-take k ps m)) (h.simple p own) (first_free_is (placed_by path_claims (take k starts) qs) (path_claims p)),
+      meetings-le_hops links_most qs p,
       hops_before 0 stops hops k h.agree (omega arith),
     )

@@ -4,3 +4,4 @@ pub mod Again
 pub mod EntriesAdded
 pub mod Cuts
 pub mod Told
+pub mod StartedPackets

@@ -13,9 +13,7 @@ use Rattle.theorems.specs.Simple.{Simple}
 pub record SimplePaths (stops hops : List ℕ) : Type 0 where
   pub agree : stops_agree 0 stops (length hops) ≡ true
   pub few : length hops ≤ hops_most
-  pub links : ℕ
-  pub links_few : links ≤ links_most
-  pub simple : (p : List ℕ) → Memᴰ p (paths_from 0 stops hops) → Simple links p
+  pub simple : (p : List ℕ) → Memᴰ p (paths_from 0 stops hops) → Simple links_most p
 
 -- what a packet with this path claims: its links, each a step after the one before
 abbrev pub path_claims : List ℕ → List Claim

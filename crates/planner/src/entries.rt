@@ -9,7 +9,8 @@ ghost use Rattle.planner.specs.PacketsInLists.{path_claims};
 ghost use Rattle.planner.specs.Entries.{widest, Below, Searchable, MarksAdded, FoundAmong, total, Rooms, Enterable};
 ghost use Rattle.planner.specs.EntriesAdded.{claim_steps, EntriesAdded};
 
-use job::{Hop, Step, wide};
+use crate::wide;
+use job::{Hop, Step};
 
 // Adds to each link's load how often it stands among the hops.
 fn count(hops: &[u16], loads: &mut [u16])

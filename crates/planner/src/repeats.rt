@@ -6,7 +6,7 @@ ghost use Rattle.planner.specs.Entries.{Below};
 ghost use Rattle.planner.specs.Again.{FirstAgain, InOrder};
 ghost use Rattle.planner.specs.Cuts.{FirstRepeat, each_later, MarksWithin, Markable, Cuttable, Cut, SameParts, Walkable, FirstBeyond};
 
-use job::wide;
+use crate::wide;
 
 // Marks the steps up to the first that is marked already, since it stands among those before it: its place, or the number of steps. A word
 // stays in hand for as long as the steps fall in it, so that no look at it waits for a store.

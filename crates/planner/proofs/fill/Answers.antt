@@ -7,13 +7,10 @@ use Rattle.planner.proofs.fill.Goals as goal
 
 pub make_room-requires : goal.make_room-requires
 make_room-requires c =
-    (hops_below _ _ c.requires.0, omega (arith, c.requires.0.few), refl, zero_at links_most, zero_at links_most)
+    let paths = c.args.paths.now in
+    (hops_below _ _ paths.simple, omega (arith, paths.simple.few), refl, zero_at links_most, zero_at links_most)
 
 pub start_each-requires : goal.start_each-requires
 start_each-requires c =
-    let r = c.make_room in (
-      c.requires.0,
-      c.requires.1,
-      entries_none _ _ _ _ _ _ c.requires.0.few r.ensures.rooms r.ensures.empty r.auto.firsts r.auto.nexts refl,
-      omega arith,
-    )
+    let r = c.make_room in
+    (c.requires, entries_none _ _ _ _ _ _ c.args.paths.now.simple.few r.ensures.rooms r.ensures.empty r.auto.firsts r.auto.nexts refl, omega arith)

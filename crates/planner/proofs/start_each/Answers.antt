@@ -8,15 +8,15 @@ use Rattle.planner.proofs.start_each.Goals.{After-begin, After-search-start}
 use Rattle.planner.proofs.start_each.Goals as goal
 
 -- the words that are lent to packet k's search
-enough : (c : After-begin) → length (take (c.begin.result / 64 + 1 - 0) c.loop-k.words) ≡ begin_from 0 c.args.stops.now c.loop-k.k / 64 + 1
+enough : (c : After-begin) → length (take (c.begin.result / 64 + 1 - 0) c.loop-k.words) ≡ begin_from 0 c.args.paths.now.stops.now c.loop-k.k / 64 + 1
 enough c =
-    words_lent _ _ _ _ c.requires.0 c.loop-k-test.true _ _ _ c.loop-k.invariant.2 _ c.path-path_k.ensures _ _ c.begin.ensures
-    (rw c.loop-k.auto.words c.requires.3)
+    words_lent _ _ _ _ c.args.paths.now.simple (omega arith) _ _ _ c.loop-k.invariant.1 _ c.path-path.ensures _ _ c.begin.ensures
+    (rw c.loop-k.auto.words c.requires.2)
 
 -- what it finds
-found : (c : After-search-start) → c.search-start.result ≡ start_at c.args.stops.now c.args.hops.now c.loop-k.starts c.loop-k.k
+found : (c : After-search-start) → c.search-start.result ≡ start_at c.args.paths.now.stops.now c.args.paths.now.hops.now c.loop-k.starts c.loop-k.k
 found c =
-    search_found _ _ _ _ c.requires.0 c.loop-k-test.true _ _ _ c.loop-k.invariant.2 _ c.path-path_k.ensures _ _
+    search_found _ _ _ _ c.args.paths.now.simple (omega arith) _ _ _ c.loop-k.invariant.1 _ c.path-path.ensures _ _
     (enough (goal.at.After-search-start c).After-begin) c.search-start.ensures
 
 pub slice_bounds-search-end : goal.slice_bounds-search-end
@@ -24,32 +24,32 @@ slice_bounds-search-end c = omega (arith, enough c, c.begin.ensures, length-take
 
 pub search-start-requires : goal.search-start-requires
 search-start-requires c =
-    search_ready _ _ _ _ c.requires.0 c.loop-k-test.true _ _ _ c.loop-k.invariant.2 _ c.path-path_k.ensures _
+    search_ready _ _ _ _ c.args.paths.now.simple (omega arith) _ _ _ c.loop-k.invariant.1 _ c.path-path.ensures _
     (enough (goal.at.search-start-requires c).After-begin)
 
 pub overflow_cast-start : goal.overflow_cast-start
 overflow_cast-start c =
+    let simple = c.args.paths.now.simple in
     omega (
       arith,
       found (goal.at.overflow_cast-start c).After-search-start,
-      start-le_begin _ _ c.loop-k.starts _ c.requires.0 c.loop-k-test.true,
-      begin_within _ _ _ _ c.requires.0 c.loop-k-test.true _ _ _ c.loop-k.invariant.2 _ c.path-path_k.ensures,
+      start-le_begin _ _ c.loop-k.starts c.loop-k.k simple (omega arith),
+      begin_within _ _ _ c.loop-k.k simple (omega arith) _ _ _ c.loop-k.invariant.1 _ c.path-path.ensures,
     )
 
 pub enter-requires : goal.enter-requires
 enter-requires c =
-    enter_ready _ _ _ _ c.requires.0 c.loop-k-test.true _ _ _ c.loop-k.invariant.2 _ c.path-path_k.ensures _
+    enter_ready _ _ _ _ c.args.paths.now.simple (omega arith) _ _ _ c.loop-k.invariant.1 _ c.path-path.ensures _
     (found (goal.at.enter-requires c).After-search-start)
 
 pub loop-k-preserved : goal.loop-k-preserved
 loop-k-preserved c = (
-  omega arith,
-  one_more _ _ _ _ _ c.loop-k-test.true c.requires.1 c.loop-k.invariant.1 _ (found (goal.at.loop-k-preserved c).After-search-start),
-  entries_next _ _ _ _ _ c.loop-k-test.true (omega (arith, c.requires.1, c.loop-k.auto.starts)) c.requires.0 _ _ _ c.loop-k.invariant.2
-      _ c.path-path_k.ensures _ _ c.enter.auto.nexts c.enter.auto.steps c.enter.ensures.by_index c.enter.ensures.entries,
+  one_more _ _ _ _ _ (omega arith) c.requires.0 c.loop-k.invariant.0 _ (found (goal.at.loop-k-preserved c).After-search-start),
+  entries_next _ _ _ _ _ (omega arith) (omega (arith, c.requires.0, c.loop-k.auto.starts)) c.args.paths.now.simple _ _ _ c.loop-k.invariant.1
+      _ c.path-path.ensures _ _ c.enter.auto.nexts c.enter.auto.steps c.enter.ensures.by_index c.enter.ensures.entries,
 )
 
 pub returns : goal.returns
 returns c =
-    let all : c.loop-k.k ≡ length c.args.stops.now = omega arith in
-    c.loop-k.invariant.1 ∙ rw (all, all_written)
+    let all : c.loop-k.k ≡ length c.args.paths.now.stops.now = omega arith in
+    c.loop-k.invariant.0 ∙ rw (all, all_written)

@@ -1,19 +1,18 @@
 -- The reader's lists, then the starts of the job that stands in them.
-use Rattle.job_text.proofs.Accepts.{read_holds, counted}
-use Rattle.planner.proofs.TextPlanned.{text_refused, text_listed, text_planned}
+use Rattle.std.proofs.Common.{◌≡◌, Err, rules, arith}
+use Rattle.planner.proofs.TextPlanned.{text_refused, text_listed, text_fits, text_planned}
 use Rattle.planner.proofs.from_text.read_and_plan.Goals as goal
 
-pub returns-in_default : goal.returns-in_default
-returns-in_default c = text_refused _ c.read-reading.ensures c.in_default.is _
+pub returns-in_err-job-clause-read_and_planned : goal.returns-in_err-job-clause-read_and_planned
+returns-in_err-job-clause-read_and_planned c =
+    let e : c.from_residual.result ≡ Err c.in_err-job.field-0.0 = search rules in
+    rw e (text_refused _ c.in_err-job.ensures.read _)
 
-pub slice_bounds-fill-end : goal.slice_bounds-fill-end
-slice_bounds-fill-end c = counted c.wide-packets.ensures (read_holds _ c.in-Read.is c.read-reading.ensures).stops
-
-pub slice_bounds-fill-end-2 : goal.slice_bounds-fill-end-2
-slice_bounds-fill-end-2 c = counted c.wide.ensures (read_holds _ c.in-Read.is c.read-reading.ensures).hops
+pub invariant_of-fill : goal.invariant_of-fill
+invariant_of-fill c = record { simple = text_listed _ c.in_ok-job.ensures.read _ c.job.ensures }
 
 pub fill-requires : goal.fill-requires
-fill-requires c = text_listed _ c.read-reading.ensures c.in-Read.is c.wide-packets.ensures c.wide.ensures c.told-starts
+fill-requires c = omega (arith, text_fits _ c.in_ok-job.ensures.read _ c.job.ensures, c.told-starts)
 
-pub returns : goal.returns
-returns c = text_planned _ c.read-reading.ensures c.in-Read.is c.wide-packets.ensures c.wide.ensures c.fill.ensures
+pub returns-clause-read_and_planned : goal.returns-clause-read_and_planned
+returns-clause-read_and_planned c = text_planned _ c.in_ok-job.ensures.read _ c.job.ensures c.fill.ensures

@@ -1,6 +1,6 @@
 -- Its path is the one that `path` hands out.
 use Rattle.planner.specs.PacketsInLists.{packet_enters}
-use Rattle.planner.proofs.packet_enters.Goals as goal
+use Rattle.planner.proofs.started.Started.enters.Goals as goal
 
 pub returns : goal.returns
 unfolding packet_enters

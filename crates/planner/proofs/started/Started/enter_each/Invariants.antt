@@ -1,0 +1,7 @@
+-- What is entered so far, and what the packets that are left will enter, together are what all enter.
+use Rattle.planner.proofs.EveryPacket.{EnteredToPacket}
+use Rattle.planner.proofs.started.Started.enter_each.Given as goal
+
+abbrev pub invariant-loop-packet : goal.invariant-loop-packet
+invariant-loop-packet l =
+    EnteredToPacket l.self.paths.stops.now l.self.paths.hops.now l.self.starts.now l.initial.nexts l.initial.steps l.nexts l.steps l.packet
