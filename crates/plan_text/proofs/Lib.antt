@@ -1,6 +1,7 @@
 pub mod Stops
-pub mod PacketLoops
+pub mod Greatest
 pub mod Loads
+pub mod PacketLoops
 pub mod WritingPlans
 pub mod TextAnswered
 pub mod LineOfThree

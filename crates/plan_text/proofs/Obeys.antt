@@ -4,6 +4,7 @@ use mathlib.Core.Path.{◌≡◌, sym}
 use mathlib.Core.List.{List, ◌++◌}
 use Prim.Native.Nat.{ℕ}
 use lib.ListN.{length, drop}
+use Rattle.std.proofs.Common.{Result, Ok}
 use Rattle.rules.specs.Network.{Job}
 use Rattle.rules.specs.Outcome.{is, fine}
 use Rattle.rules.specs.PlanText.{text_of_plan}
@@ -12,8 +13,7 @@ use Rattle.theorems.specs.Jobs.{IsStarted}
 use Rattle.theorems.proofs.Verdicts.{onward_is}
 use Rattle.theorems.proofs.Started.{started_fine-iff}
 use Rattle.theorems.proofs.PlanBackExact.{plan_read_in-iff}
-use Rattle.job.specs.declared.Verdict.{Verdict}
-use Rattle.job.specs.declared.Verdict.TheVariants.{Fine}
+use Rattle.job.specs.declared.Refusal.{Refusal}
 use Rattle.plan_text.specs.Told.{ReadBackAs}
 
 pub record StartsRead (j : Job) (plan : List ℕ) (places : ℕ) (lent after : List ℕ) : Type 0 where
@@ -23,8 +23,8 @@ pub record StartsRead (j : Job) (plan : List ℕ) (places : ℕ) (lent after : L
   pub text : plan ≡ text_of_plan j starts
   pub stand : after ≡ starts ++ drop (length starts) lent
 
-pub read_starts : (j : Job) (plan : List ℕ) (places : ℕ) {told : Verdict} {lent after : List ℕ} → ReadBackAs (plan_read_in j plan places) told lent after
-    → told ≡ Fine → StartsRead j plan places lent after
+pub read_starts : (j : Job) (plan : List ℕ) (places : ℕ) {told : Result Unit Refusal} {lent after : List ℕ} → ReadBackAs (plan_read_in j plan places) told lent after
+    → told ≡ Ok tt → StartsRead j plan places lent after
 unfolding lent_after
 read_starts j plan places a e =
     let (ss, said, all) = onward_is (plan_read_in j plan places) (λ starts. fine) (sym (rw e at a.verdict)) in

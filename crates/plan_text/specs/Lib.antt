@@ -1,4 +1,3 @@
-pub mod HopsInLists
 pub mod LastLine
 pub mod PlanLines
 pub mod Told

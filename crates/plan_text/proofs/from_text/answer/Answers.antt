@@ -1,23 +1,28 @@
 -- What is read and planned, then its text.
-use Rattle.job_text.proofs.Accepts.{read_holds, counted, roomy_arrays}
-use Rattle.plan_text.proofs.TextAnswered.{answer_refused, answer_writable, answer-written}
+use Rattle.std.proofs.Common.{◌≡◌, Err, sym, rules, length-take-le}
+use Rattle.job_text.proofs.Accepts.{counted, roomy_arrays}
+use Rattle.plan_text.proofs.TextAnswered.{answer_refused, starts_hold, job_accepted, starts_counted, read_started, answer-written}
 use Rattle.plan_text.proofs.from_text.answer.Goals as goal
 
-pub returns-in-Refused : goal.returns-in-Refused
-returns-in-Refused c = answer_refused _ c.read_and_plan-reading.ensures roomy_arrays c.in-Refused.is _
+pub returns-in_err-job : goal.returns-in_err-job
+returns-in_err-job c =
+    let e : c.from_residual.result ≡ Err c.in_err-job.field-0.0 = search rules in
+    rw e (answer_refused _ c.in_err-job.ensures.read_and_planned roomy_arrays _)
 
-pub slice_bounds-write_accepted-end : goal.slice_bounds-write_accepted-end
-slice_bounds-write_accepted-end c = counted c.wide-packets.ensures (read_holds _ c.in-Read.is c.read_and_plan-reading.ensures.read).stops
+pub slice_bounds-starts-end : goal.slice_bounds-starts-end
+slice_bounds-starts-end c = counted c.from.ensures (starts_hold _ c.in_ok-job.ensures.read_and_planned)
 
-pub slice_bounds-write_accepted-end-in-Read : goal.slice_bounds-write_accepted-end-in-Read
-slice_bounds-write_accepted-end-in-Read c =
-    counted c.wide-in-Read.ensures (read_holds _ c.in-Read.is c.read_and_plan-reading.ensures.read).hops
+pub slice_bounds-plan-end : goal.slice_bounds-plan-end
+slice_bounds-plan-end c = sym (length-take-le _ _ (counted c.from.ensures (starts_hold _ c.in_ok-job.ensures.read_and_planned)))
 
-pub write_accepted-requires : goal.write_accepted-requires
-write_accepted-requires c =
-    answer_writable _ c.read_and_plan-reading.ensures c.in-Read.is c.wide-packets.ensures c.wide.ensures c.wide-in-Read.ensures
+pub invariant_of-plan : goal.invariant_of-plan
+invariant_of-plan c = record {
+  job = job_accepted _ c.in_ok-job.ensures.read_and_planned _ c.job.ensures;
+  count = starts_counted _ c.in_ok-job.ensures.read_and_planned _ c.job.ensures c.from.ensures;
+}
 
-pub returns-in-Read : goal.returns-in-Read
-returns-in-Read c =
-    answer-written _ c.read_and_plan-reading.ensures c.in-Read.is c.wide-packets.ensures c.wide.ensures c.wide-in-Read.ensures
-    c.write_accepted.ensures
+pub write-requires : goal.write-requires
+write-requires c = read_started _ c.in_ok-job.ensures.read_and_planned _ c.job.ensures c.from.ensures
+
+pub returns : goal.returns
+returns c = answer-written _ c.in_ok-job.ensures.read_and_planned _ c.job.ensures c.from.ensures c.write.ensures

@@ -1,35 +1,55 @@
 -- The S lines, as many as packets, the T line, and what follows.
-use Rattle.std.proofs.Common.{replicate}
-use Rattle.rules.specs.Sizes.{packets_most}
-use Rattle.rules.specs.PlanBack.{starts_of}
-use Rattle.lines.specs.Cursor.{top_line}
-use Rattle.plan_text.specs.PlanLines.{rows_found, ends_of}
-use Rattle.plan_text.proofs.Finding.{rows_bad, count_off, totals_bad, found-followed, stored_room, front_count, array_places, job_room, job_writable}
+use Rattle.std.proofs.Common.{◌≡◌, Err, sym, ◌∙◌, rules, length-take-le}
+use Rattle.plan_text.proofs.Stops.{accepted_job}
+use Rattle.plan_text.proofs.Finding.{rows_bad, count_off, totals_bad, off, found, packets_fit, starts_fit, ends_fit}
 use Rattle.plan_text.proofs.reading.find_starts.Goals as goal
 
-pub returns-then-count-stops : goal.returns-then-count-stops
-returns-then-count-stops c = λ j of. count_off _ c.requires.1 of c.plan_rows-rows.ensures.0 c.in-All.is c.if-count-stops.true
+pub returns-in_err-rows : goal.returns-in_err-rows
+returns-in_err-rows c =
+    let e : c.from_residual.result ≡ Err c.in_err-rows.field-0.0 = search rules in
+    rw e (rows_bad _ _ c.requires.1 (rw (c.top-reader.ensures.0, c.top-reader.ensures.1) at c.in_err-rows.ensures.0))
 
-pub followed-requires : goal.followed-requires
-followed-requires c =
-    let found = rows_found c.args.plan.now top_line in
-    let same = c.if-count-stops.false in
-    let rows = c.plan_rows-rows.ensures in
-    let starts = stored_room c.args.starts.now (starts_of found) rows.1 (job_room c.requires.0 same c.requires.2) in
-    let ends = stored_room (replicate packets_most 0) (ends_of found) rows.2 (job_room c.requires.0 same array_places) in
-    (job_writable c.requires.0 (front_count _ starts same), front_count _ ends same)
+pub returns-then-rows-lists : goal.returns-then-rows-lists
+returns-then-rows-lists c =
+    count_off _ _ c.requires.1 (rw (c.top-reader.ensures.0, c.top-reader.ensures.1) at c.in_ok-rows.ensures.0) c.if-rows-lists.true
 
-pub returns-in-Bad : goal.returns-in-Bad
-returns-in-Bad c = λ j of. rows_bad _ c.requires.1 of c.plan_rows-rows.ensures.0 c.in-Bad.is
+pub returns-in_err-said : goal.returns-in_err-said
+returns-in_err-said c =
+    let e : c.from_residual-in_err-said.result ≡ Err c.in_err-said.field-0.0 = search rules in
+    rw e
+    (totals_bad _ _ c.requires.1 (rw (c.top-reader.ensures.0, c.top-reader.ensures.1) at c.in_ok-rows.ensures.0) c.if-rows-lists.false
+    (rw (c.moved.ensures.0, c.moved.ensures.1, c.top-reader.ensures.0) at c.in_err-said.ensures))
 
-pub returns-in-Bad-totals : goal.returns-in-Bad-totals
-returns-in-Bad-totals c = λ j of.
-    totals_bad _ c.requires.1 of c.plan_rows-rows.ensures.0 c.in-All.is c.if-count-stops.false c.plan_totals-totals.ensures c.in-Bad-totals.is
+pub slice_bounds-starts-end : goal.slice_bounds-starts-end
+slice_bounds-starts-end c = starts_fit _ c.requires.0 c.if-rows-lists.false c.top-reader.result.bytes.now c.top-reader.result.place c.in_ok-rows.ensures.1
 
-pub returns-in-Are : goal.returns-in-Are
-returns-in-Are c = λ j of.
-    let same = c.if-count-stops.false in
-    let rows = c.plan_rows-rows.ensures in
-    found-followed _ c.requires.1 of rows.0 c.in-All.is same c.plan_totals-totals.ensures c.in-Are.is c.args.starts.now
-    (replicate packets_most 0) (job_room c.requires.0 same c.requires.2) (job_room c.requires.0 same array_places) rows.1 rows.2 _
-    (c.followed.ensures j of)
+pub slice_bounds-plan-end : goal.slice_bounds-plan-end
+slice_bounds-plan-end c = sym (length-take-le _ _ (starts_fit _ c.requires.0 c.if-rows-lists.false c.top-reader.result.bytes.now c.top-reader.result.place c.in_ok-rows.ensures.1))
+
+pub invariant_of-plan : goal.invariant_of-plan
+invariant_of-plan c = record {
+  job = c.requires.0;
+  count =
+      length-take-le _ _ (starts_fit _ c.requires.0 c.if-rows-lists.false c.top-reader.result.bytes.now c.top-reader.result.place c.in_ok-rows.ensures.1) ∙ c.if-rows-lists.false
+      ∙ sym (accepted_job _ c.requires.0).stops_count;
+}
+
+pub slice_bounds-ends-end : goal.slice_bounds-ends-end
+slice_bounds-ends-end c = ends_fit _ c.requires.0 c.if-rows-lists.false c.top-reader.result.bytes.now c.top-reader.result.place c.in_ok-rows.ensures.2
+
+pub slice_bounds-followed-end : goal.slice_bounds-followed-end
+slice_bounds-followed-end c = sym (length-take-le _ _ (ends_fit _ c.requires.0 c.if-rows-lists.false c.top-reader.result.bytes.now c.top-reader.result.place c.in_ok-rows.ensures.2))
+
+pub returns-in_err-followed : goal.returns-in_err-followed
+returns-in_err-followed c =
+    let e : c.from_residual-in_err-followed.result ≡ Err c.in_err-followed.field-0.0 = search rules in
+    let rows = rw (c.top-reader.ensures.0, c.top-reader.ensures.1) at c.in_ok-rows.ensures in
+    rw e
+    (off _ _ c.requires.1 rows.0 c.if-rows-lists.false (rw (c.moved.ensures.0, c.moved.ensures.1, c.top-reader.ensures.0) at c.in_ok-said.ensures)
+    (packets_fit _ c.requires.0 c.if-rows-lists.false) _ _ rows.1 rows.2 c.in_err-followed.ensures)
+
+pub returns : goal.returns
+returns c =
+    let rows = rw (c.top-reader.ensures.0, c.top-reader.ensures.1) at c.in_ok-rows.ensures in
+    found _ _ c.requires.1 rows.0 c.if-rows-lists.false (rw (c.moved.ensures.0, c.moved.ensures.1, c.top-reader.ensures.0) at c.in_ok-said.ensures)
+    (packets_fit _ c.requires.0 c.if-rows-lists.false) _ _ rows.1 rows.2 c.in_ok-followed.ensures

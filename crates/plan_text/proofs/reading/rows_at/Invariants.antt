@@ -3,8 +3,8 @@ use Rattle.std.proofs.Common.{length, ◌-◌}
 use Rattle.plan_text.proofs.RowsLeft.{Left}
 use Rattle.plan_text.proofs.reading.rows_at.Given as goal
 
-abbrev pub invariant-loop-row : goal.invariant-loop-row
-invariant-loop-row l = Left l.plan l.fn.starts l.fn.ends l.fn.place l.starts l.ends l.here l.k
+abbrev pub invariant-loop-bad_form : goal.invariant-loop-bad_form
+invariant-loop-bad_form l = Left l.plan l.fn.starts l.fn.ends l.fn.place l.starts l.ends l.next l.count
 
-abbrev pub decreases-loop-row : goal.decreases-loop-row
-decreases-loop-row l = length l.plan - l.here.at
+abbrev pub decreases-loop-bad_form : goal.decreases-loop-bad_form
+decreases-loop-bad_form l = length l.plan - l.next.at

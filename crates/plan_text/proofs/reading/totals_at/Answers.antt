@@ -1,13 +1,16 @@
 -- The T line, if the plan ends behind it.
-use Rattle.std.proofs.Common.{sym}
-use Rattle.plan_text.proofs.RowsLeft.{totals_none, totals_more, totals_end}
+use Rattle.std.proofs.Common.{◌≡◌, Err, sym, ◌∙◌, rules}
+use Rattle.plan_text.proofs.RowsLeft.{ok_some, err_none, totals_none, totals_more, totals_end}
 use Rattle.plan_text.proofs.reading.totals_at.Goals as goal
 
-pub returns-then-next-plan : goal.returns-then-next-plan
-returns-then-next-plan c = totals_more _ _ (sym c.in-Is.ensures) c.if-next-plan.true
+pub returns-in_err-last : goal.returns-in_err-last
+returns-in_err-last c =
+    let e : c.from_residual.result ≡ Err c.in_err-last.field-0.0 = search rules in
+    let (none, why) = err_none _ _ c.in_err-last.ensures.value in
+    rw (e, why) (totals_none _ _ (sym c.line_at.ensures ∙ none))
 
-pub returns-else-next-plan : goal.returns-else-next-plan
-returns-else-next-plan c = totals_end _ _ (sym c.in-Is.ensures) c.if-next-plan.false
+pub returns-then-last-plan : goal.returns-then-last-plan
+returns-then-last-plan c = totals_more _ _ (sym c.line_at.ensures ∙ ok_some _ _ c.in_ok-last.ensures.value) c.if-last-plan.true
 
-pub returns-in-Other : goal.returns-in-Other
-returns-in-Other c = totals_none _ _ (sym c.in-Other.ensures)
+pub returns : goal.returns
+returns c = totals_end _ _ (sym c.line_at.ensures ∙ ok_some _ _ c.in_ok-last.ensures.value) c.if-last-plan.false
