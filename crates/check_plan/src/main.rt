@@ -1,12 +1,12 @@
 // The program `check`: a job and a plan in the two files that are named, and on standard output what the check of the plan finds.
 #![tactic(auto)]
 
-ghost use Rattle.std.specs.Prelude.{◌≤◌, ℕ, List, ◌++◌, codes, length, OnOk};
+ghost use Rattle.std.specs.Prelude.{◌≤◌, ◌++◌, codes, length, IfSome, IfOk, OnOk};
 ghost use Rattle.std.specs.Io.KnownBytes.{Appends};
 ghost use Rattle.rules.specs.CheckedTexts.{checks};
 
 use checking::ROOM;
-use input::{Input, read_all, tell_failure};
+use input::{read_all, tell_failure};
 use job::Job;
 use std::env::FillError;
 use std::fs::{File, OpenOptions};
@@ -54,54 +54,44 @@ fn two_are_named(rt: &HostRuntime, errors: &mut impl Write) -> bool {
 
 // Opens the file of this name. std knows files by names that are text, so no file is found by one that is not UTF-8.
 fn open(rt: &HostRuntime, name: &[u8]) -> io::Result<File> {
-    match str::from_utf8(name) {
-        Ok(name) => rt.open_file(OpenOptions::new().read(true), name),
-        Err(_) => Err(io::Error::from(ErrorKind::InvalidFilename)),
-    }
-}
-
-// Reads the file of this name into the lent list, as `read_all` does. What fails is told with the file's own name.
-fn read_file(rt: &HostRuntime, errors: &mut impl Write, name: &[u8], text: &mut [u8]) -> Input
-    ensures { result.bytes ≤ length text.new }
-{
-    let input = match open(rt, name) {
-        Ok(mut file) => read_all(&mut file, text),
-        Err(error) => Input {
-            bytes: 0,
-            failed: Some(error),
-        },
+    let Ok(name) = str::from_utf8(name) else {
+        return Err(io::Error::from(ErrorKind::InvalidFilename));
     };
-    if let Some(error) = input.failed {
-        let _ = tell_failure(errors, name, error);
-    }
-    input
+    rt.open_file(OpenOptions::new().read(true), name)
 }
 
-// Reads the file that argument i names, which is `what` of the two. A name that is empty or too long is told and not tried: a part of it could be
-// the name of another file.
+// Reads the file of this name into the lent list, as `read_all` does, and says how many bytes that were.
+fn read_file(rt: &HostRuntime, name: &[u8], text: &mut [u8]) -> io::Result<usize>
+    ensures { IfOk result (λ bytes. bytes ≤ length text.new) }
+{
+    let mut file = open(rt, name)?;
+    Ok(read_all(&mut file, text)?)
+}
+
+// Reads the file that argument i names, which is `what` of the two. What fails is told with the file's own name, and so is a name that is empty or too
+// long. Such a name is not tried: a part of it could be the name of another file.
 fn read_named(
     rt: &HostRuntime,
     errors: &mut impl Write,
     i: usize,
     what: &[u8],
     text: &mut [u8],
-) -> Input
-    ensures { result.bytes ≤ length text.new }
+) -> Option<usize>
+    ensures { IfSome result (λ bytes. bytes ≤ length text.new) }
 {
     let mut name = [0; NAME];
-    let _ = match rt.arg(i, &mut name) {
-        Ok(0) => tell_usage(errors, b"an empty name is given for ", what),
-        Ok(length) => return read_file(rt, errors, &name[0..length], text),
-        Err(_) => tell_usage(
-            errors,
-            b"a name of more than 4,095 bytes is given for ",
-            what,
-        ),
+    let wrong = match rt.arg(i, &mut name) {
+        Ok(0) => "an empty name is given for ",
+        Err(_) => "a name of more than 4,095 bytes is given for ",
+        Ok(length) => {
+            let name = &name[0..length];
+            return read_file(rt, name, text)
+                .map_err(|error| tell_failure(errors, name, error))
+                .ok();
+        }
     };
-    Input {
-        bytes: 0,
-        failed: Some(io::Error::from(ErrorKind::InvalidFilename)),
-    }
+    let _ = tell_usage(errors, wrong.as_bytes(), what);
+    None
 }
 
 // Writes what the check of a plan's text against a job's finds, and nothing else.
@@ -121,17 +111,13 @@ fn main(rt: HostRuntime) {
         return;
     }
     let mut job = [0; Job::TEXT + 1];
-    let job_input = read_named(&rt, &mut errors, 1, b"JOB", &mut job);
-    if job_input.failed.is_some() {
+    let Some(job_bytes) = read_named(&rt, &mut errors, 1, b"JOB", &mut job) else {
         return;
-    }
+    };
     let mut plan = [0; Job::TEXT + 1];
-    let plan_input = read_named(&rt, &mut errors, 2, b"PLAN", &mut plan);
-    if plan_input.failed.is_some() {
+    let Some(plan_bytes) = read_named(&rt, &mut errors, 2, b"PLAN", &mut plan) else {
         return;
-    }
-    let job_bytes = job_input.bytes;
-    let plan_bytes = plan_input.bytes;
+    };
     let written = print(&job[0..job_bytes], &plan[0..plan_bytes], &mut rt.stdout());
     if let Err(error) = written {
         let _ = tell_failure(&mut errors, b"standard output", error);

@@ -1,51 +1,53 @@
 -- From what the job's reader leaves in its lists to what the two texts come to.
-use mathlib.Core.Path.{◌≡◌, refl, ◌∙◌}
+use mathlib.Core.Path.{◌≡◌, refl, ap, ◌∙◌}
 use mathlib.Core.Bool.{true}
 use mathlib.Core.List.{List}
-use Prim.Native.Nat.{ℕ, ◌-◌, ◌≤◌}
+use Prim.Native.Nat.{ℕ, ◌≤◌}
 use native.Mathlib.Omega.{arith}
-use lib.ListN.{length, take, replicate, length-replicate}
+use lib.ListN.{length, replicate, length-replicate}
 use borrow.Author.Tests.{le-leb}
+use Rattle.std.specs.Prelude.{Option, Result, Ok, Err, ⊥}
+use Rattle.std.specs.Result.{MatchResult, IsErrAnd}
 use Rattle.rules.specs.Sizes.{packets_most}
 use Rattle.rules.specs.Network.{Job}
 use Rattle.rules.specs.Outcome.{Outcome, is, refused, onward}
 use Rattle.rules.specs.JobText.{reading}
 use Rattle.rules.specs.PlanBack.{read_back}
-use Rattle.rules.specs.Answers.{in_room, plan_read_in}
-use Rattle.rules.specs.CheckedTexts.{TextsChecked, of_job, checked_texts}
+use Rattle.rules.specs.Answers.{in_room, plan_read_in, checked}
+use Rattle.rules.specs.CheckedTexts.{of_plan, of_job, checked_texts}
 use Rattle.theorems.proofs.Verdicts.{refused_not_is, refused_same}
 use Rattle.theorems.proofs.TextJobs.{reading_job}
 use Rattle.theorems.proofs.Started.{started_fine-iff}
 use Rattle.theorems.proofs.PlanBackExact.{read_back_started}
 use Rattle.job.specs.declared.Job.{Job as Counts}
 use Rattle.job.specs.declared.Refusal.{Refusal}
-use Rattle.job.specs.Lists.{job_of}
 use Rattle.job.specs.Told.{refusal_of}
-use Rattle.job_text.specs.declared.Reading.{Reading}
-use Rattle.job_text.specs.declared.Reading.TheVariants.{Read, Refused}
+use Rattle.planner.specs.declared.Clash.{Clash}
+use Rattle.planner.specs.Told.{checked_of}
 use Rattle.job_text.specs.Told.{Lists, roomy, read_in, counts_of, ReadAs}
 use Rattle.job_text.specs.SoFar.{so_far}
 use Rattle.job_text.proofs.Accepts.{read_stands, read_in_lem}
-use Rattle.checking.proofs.InTurn.{comes_to}
-use Rattle.checking.specs.declared.Texts.TheVariants.{JobRefused}
+use Rattle.checking.specs.declared.Refused.{Refused}
+use Rattle.checking.specs.declared.Refused.TheVariants.{Job as JobRefused, Plan as PlanRefused}
 use Rattle.checking.specs.Told.{texts_of}
 
--- the job that is handed on: the first places of the lists, as many as are counted
-abbrev handed_on : Counts → Lists → (links packets hops : ℕ) → Job
-handed_on c l links packets hops =
-    job_of c.nodes (take (links - 0) l.origins) (take (links - 0) l.ends) (take (packets - 0) l.sources)
-    (take (packets - 0) l.stops) (take (hops - 0) l.hops)
+-- what the check of the plan answers is what the two texts come to, once the job is read
+pub of_the_plan : (told : Result (Option Clash) Refusal) (answer : Result (Option Clash) Refused)
+    → MatchResult told (λ found. answer ≡ Ok found) (λ r. IsErrAnd answer (λ e. e ≡ PlanRefused r)) → texts_of answer ≡ of_plan (checked_of told)
+of_the_plan (Ok found) answer e = ap texts_of e
+of_the_plan (Err r) (Ok found) e = absurd e
+of_the_plan (Err r) (Err refusal) e = rw e refl
 
-module _ (job plan : List ℕ) {lent after : Lists} (h : roomy lent ≡ true) {told : Reading} (a : ReadAs (read_in job lent) told lent after) where
-  pub job_refused_told : {r : Refusal} → told ≡ Refused r → texts_of (JobRefused r) ≡ checked_texts job plan
+module _ (job plan : List ℕ) {lent after : Lists} (h : roomy lent ≡ true) where
+  pub job_refused : (r : Refusal) → ReadAs (read_in job lent) (Err r) lent after → texts_of (Err (JobRefused r)) ≡ checked_texts job plan
   unfolding checked_texts
-  job_refused_told {r} t = go (reading job) (rw (read_in_lem job lent h, t) at a.answer)
+  job_refused r a = go (reading job) (rw (read_in_lem job lent h) at a.answer)
     where
-      go : (o : Outcome Job) → refusal_of r ≡ onward o (λ j. is (counts_of j)) → texts_of (JobRefused r) ≡ of_job o plan
+      go : (o : Outcome Job) → refusal_of r ≡ onward o (λ j. is (counts_of j)) → texts_of (Err (JobRefused r)) ≡ of_job o plan
       go (is j) e = absurd (refused_not_is e)
       go (refused n p) e = let (x, y) = refused_same e in rw (x, y)
 
-  module _ {counts : Counts} (t : told ≡ Read counts) (places : ℕ) (fits : packets_most ≤ places) where
+  module _ {counts : Counts} (a : ReadAs (read_in job lent) (Ok counts) lent after) (places : ℕ) (fits : packets_most ≤ places) where
     -- the list of starts has room for those of every job
     room_for_starts : (j : Job) → reading job ≡ is j → plan_read_in j plan places ≡ read_back j plan
     unfolding plan_read_in in_room
@@ -57,17 +59,14 @@ module _ (job plan : List ℕ) {lent after : Lists} (h : roomy lent ≡ true) {t
             rw (le-leb (length ss) places (omega (arith, count, (reading_job job j e).few_packets, fits)))
         go (refused n p) f = refl
 
-    plan_comes_to : (j : Job) → reading job ≡ is j → {w : TextsChecked} → w ≡ comes_to plan places j → w ≡ checked_texts job plan
+    -- the check of the plan for the job that was read
+    pub plan_checked : (j : Job) → j ≡ so_far counts after → {told : Result (Option Clash) Refusal}
+        → checked_of told ≡ onward (plan_read_in j plan places) (λ starts. checked j starts) → of_plan (checked_of told) ≡ checked_texts job plan
     unfolding checked_texts
-    plan_comes_to j e w = w ∙ rw (e, room_for_starts j e)
-
-    pub texts_told : {links packets hops : ℕ} → links ≡ counts.links → packets ≡ counts.packets → hops ≡ counts.hops → {w : TextsChecked}
-        → w ≡ comes_to plan places (handed_on counts after links packets hops) → w ≡ checked_texts job plan
-    texts_told {links} {packets} {hops} l p h w =
-        let same_links : links - 0 ≡ counts.links = omega (arith, l) in
-        let same-packets : packets - 0 ≡ counts.packets = omega (arith, p) in
-        let same_hops : hops - 0 ≡ counts.hops = omega (arith, h) in
-        plan_comes_to (so_far counts after) (read_stands job (rw t at a)) (rw (same_links, same-packets, same_hops) at w)
+    plan_checked j same e =
+        let said = read_stands job a in
+        let its : of_plan (checked_of _) ≡ of_plan (onward (plan_read_in j plan places) (λ starts. checked j starts)) = ap of_plan e in
+        its ∙ rw (same, room_for_starts _ said, said)
 
 -- an array of starts has room for those of every job
 pub places : packets_most ≤ length {A = ℕ} (replicate packets_most 0)

@@ -1,51 +1,46 @@
 // What the programs read, all of it or as much as a list has places for, and how they tell what failed.
 #![tactic(auto)]
 
-ghost use Rattle.std.specs.Prelude.{◌<◌, ◌≤◌, ℕ, List, ◌++◌, codes, length, take, IsNone, OnOk};
+ghost use Rattle.std.specs.Prelude.{◌≡◌, ◌<◌, ◌≤◌, ℕ, List, ◌++◌, codes, length, take, IfOk, OnOk};
 ghost use Rattle.std.specs.Io.KnownBytes.{Appends, Consumes, IsAtEnd};
+ghost use Rattle.input.specs.Told.{bytes_read};
 
 use std::io::{Cursor, Read, Write};
 use std::{io, str};
 
-// How many bytes were read, and the error where the system failed at the next.
+// A read that failed, and how many bytes were read before it.
 #[derive(Drop)]
-pub struct Input {
+pub struct Unread {
     pub bytes: usize,
-    pub failed: Option<io::Error>,
+    pub error: io::Error,
 }
 
-// Reads into the lent list, until it is full or the input ends. There are never more bytes than the list has places. Where it is known what the
-// reader has left, they are its next ones in their order, and all of them unless a read failed or the list is full. Which bytes the system hands
-// over for a file, and when it fails, is assumed and not proved.
-pub fn read_all<R: Read>(reader: &mut R, text: &mut [u8]) -> Input
-    ensures near { result.bytes ≤ length text.new }
-    ensures in_order { Consumes (R.remaining reader.old) (R.remaining reader.new) (take result.bytes text.new) }
-    ensures to_the_end { IsNone result.failed → result.bytes < length text.new → IsAtEnd (R.remaining reader.new) }
+// For a caller to whom what was read before a failure is nothing.
+impl From<Unread> for io::Error {
+    ghost from_gives = { λ unread error. error ≡ unread.error };
+
+    fn from(unread: Unread) -> io::Error {
+        unread.error
+    }
+}
+
+// Reads into the lent list, until it is full or the input ends, and says how many bytes that were, also where a read failed. There are never more
+// bytes than the list has places. Where it is known what the reader has left, they are its next ones in their order, and all of them unless a read
+// failed or the list is full. Which bytes the system hands over for a file, and when it fails, is assumed and not proved.
+pub fn read_all<R: Read>(reader: &mut R, text: &mut [u8]) -> Result<usize, Unread>
+    ensures near { bytes_read result ≤ length text.new }
+    ensures in_order { Consumes (R.remaining reader.old) (R.remaining reader.new) (take (bytes_read result) text.new) }
+    ensures to_the_end { IfOk result (λ bytes. bytes < length text.new → IsAtEnd (R.remaining reader.new)) }
 {
-    let mut done = 0;
-    while done < text.len() {
-        match reader.read(&mut text[done..]) {
-            Ok(more) => {
-                if more == 0 {
-                    return Input {
-                        bytes: done,
-                        failed: None,
-                    };
-                }
-                done += more;
-            }
-            Err(error) => {
-                return Input {
-                    bytes: done,
-                    failed: Some(error),
-                };
-            }
+    let mut bytes = 0;
+    while bytes < text.len() {
+        match reader.read(&mut text[bytes..]) {
+            Ok(0) => break,
+            Ok(more) => bytes += more,
+            Err(error) => return Err(Unread { bytes, error }),
         }
     }
-    Input {
-        bytes: done,
-        failed: None,
-    }
+    Ok(bytes)
 }
 
 // More bytes than the words for an error take, and its number behind them.
@@ -62,10 +57,9 @@ pub fn tell_failure<W: Write>(out: &mut W, what: &[u8], error: io::Error) -> io:
     let length = (text.position() as usize).min(WORDS);
     let bytes = text.into_inner();
     let text = str::from_utf8(&bytes[..length]).unwrap_or("");
-    let words = match text.split_once(" (os error ") {
-        Some((words, _)) => words,
-        None => text,
-    };
+    let words = text
+        .split_once(" (os error ")
+        .map_or(text, |(words, _)| words);
     out.write_all(what)?;
     out.write_all(b": ")?;
     out.write_all(words.as_bytes())?;
@@ -103,9 +97,8 @@ mod tests {
             ("abcde", 4, "abcd"),
         ] {
             let mut read = [b'.'; 4];
-            let input = read_all(&mut given.as_bytes(), &mut read);
-            assert_eq!(rt; input.bytes, bytes);
-            assert!(rt; input.failed.is_none());
+            let told = read_all(&mut given.as_bytes(), &mut read);
+            assert_eq!(rt; told.ok(), Some(bytes));
             assert!(rt; &read[..] == text.as_bytes());
         }
     }
@@ -113,14 +106,13 @@ mod tests {
     #[test]
     fn tells_where_a_read_failed(rt: HostRuntime) {
         let mut read = [b'.'; 8];
-        let input = read_all(&mut Cut { left: 3 }, &mut read);
-        assert_eq!(rt; input.bytes, 3);
-        assert_eq!(rt;
-            input.failed.and_then(|error| error.raw_os_error()),
-            Some(5)
-        );
+        let told = read_all(&mut Cut { left: 3 }, &mut read);
+        let failed = told
+            .err()
+            .map(|unread| (unread.bytes, unread.error.raw_os_error()));
+        assert_eq!(rt; failed, Some((3, Some(5))));
         let full = read_all(&mut Cut { left: 3 }, &mut read[..3]);
-        assert!(rt; full.failed.is_none());
+        assert!(rt; full.is_ok());
     }
 
     #[test]

@@ -7,7 +7,7 @@ ghost use Rattle.std.specs.declared.io.Error.{Error};
 ghost use Rattle.rules.specs.Answers.{plans};
 
 use answer::ROOM;
-use input::{read_all, tell_failure};
+use input::{Unread, read_all, tell_failure};
 use job::Job;
 use std::io;
 use std::io::{Read, Write};
@@ -19,6 +19,16 @@ pub enum Failure {
     Writing(io::Error),
 }
 
+impl From<Unread> for Failure {
+    ghost use Rattle.plan.specs.declared.Failure.TheVariants.{Reading};
+
+    ghost from_gives = { λ unread failure. failure ≡ Reading unread.error };
+
+    fn from(unread: Unread) -> Failure {
+        Failure::Reading(unread.error)
+    }
+}
+
 // Reads a job to its end, and writes its plan, or the line that tells why there is none. One byte more than a text may have is read, so that a
 // longer text is seen to be too long, however much of it there is. Where it is known what the reader has, that is what is written about, and
 // nothing else is written. After an error at reading nothing is.
@@ -27,17 +37,10 @@ pub fn print<R: Read, W: Write>(job: &mut R, out: &mut W) -> Result<(), Failure>
     ensures unread { (error : Error) → result ≡ Err (Failure.Reading error) → Keeps (W.contents out.old) (W.contents out.new) }
 {
     let mut text = [0; Job::TEXT + 1];
-    let input = read_all(job, &mut text);
-    if let Some(error) = input.failed {
-        return Err(Failure::Reading(error));
-    }
-    let bytes = input.bytes;
+    let bytes = read_all(job, &mut text)?;
     let mut room = [0; ROOM];
     let count = answer::print(&text[0..bytes], &mut room);
-    match out.write_all(&room[0..count]) {
-        Ok(()) => Ok(()),
-        Err(error) => Err(Failure::Writing(error)),
-    }
+    out.write_all(&room[0..count]).map_err(Failure::Writing)
 }
 
 fn main(rt: HostRuntime) {

@@ -1,23 +1,25 @@
-// What a C program calls: include/zhevgulor.h declares it, and zhevgulor_c exports it. Each function is thin over a proved one.
+// What a C program calls: include/zhevgulor.h declares it, and zhevgulor_c exports it. Each function is thin over a proved one. That the lists come
+// one by one, and the answers in numbers, is the C interface's.
 #![tactic(auto)]
 
-ghost use Rattle.std.specs.Prelude.{◌≡◌, [], ◌∷◌, length};
+ghost use Rattle.std.specs.Prelude.{◌≡◌, ◌≤◌, length, OnOk};
 ghost use Rattle.rules.specs.Outcome.{is, onward};
+ghost use Rattle.rules.specs.Sizes.{packets_most};
 ghost use Rattle.rules.specs.Tables.{tables as tables_verdict};
 ghost use Rattle.rules.specs.Answers.{planned, led, in_room, written};
-ghost use Rattle.job.specs.Lists.{job_of};
-ghost use Rattle.job.specs.Told.{refusal_of};
+ghost use Rattle.job.specs.Lists.{job_of, job_in};
+ghost use Rattle.job.specs.Told.{outcome_of};
 ghost use Rattle.job_text.specs.Told.{lists, reading_of};
-ghost use Rattle.plan_text.specs.Told.{written_of};
-ghost use Rattle.zhevgulor.specs.Told.{answer_for, lead_for, read_for, about_text, LentAs, ReadFor};
+ghost use Rattle.planner.specs.Told.{found_of};
+ghost use Rattle.plan_text.specs.Told.{written_of, WrittenAs};
+ghost use Rattle.zhevgulor.specs.Told.{answer_for, lead_for, read_for, about_text, clash_numbers, LentAs, ReadFor};
 ghost use Rattle.zhevgulor.specs.Promise.{PlanPromise, CheckPromise};
 ghost use Rattle.zhevgulor.specs.PlanBackPromise.{ReadPlanPromise, CheckTextsPromise};
 
-use checking::Texts;
-use job::{Refusal, Step, Verdict};
-use job_text::Reading;
-use plan_text::Written;
-use planner::{Checked, Led};
+use checking::Refused;
+use job::{Job, JobLists, Network, Refusal};
+use job_text::LentLists;
+use planner::Clash;
 
 // Refusal 0 and a value, or a refusal's number and its place.
 #[repr(C)]
@@ -57,21 +59,39 @@ pub struct TextsAnswer {
     pub value: u32,
 }
 
-fn value(n: u32) -> Answer
-    ensures { result ≡ answer_for (is n) }
+// The job in lists that come one by one.
+fn job_lists<'a>(
+    nodes: u16,
+    origins: &'a [u16],
+    ends: &'a [u16],
+    sources: &'a [u16],
+    stops: &'a [u16],
+    hops: &'a [u16],
+) -> JobLists<'a>
+    ensures { job_in result ≡ job_of nodes origins.now ends.now sources.now stops.now hops.now }
 {
-    Answer {
-        refusal: 0,
-        value: n,
+    JobLists {
+        network: Network {
+            nodes,
+            origins,
+            ends,
+        },
+        sources,
+        stops,
+        hops,
     }
 }
 
-fn refused(refusal: Refusal) -> Answer
-    ensures { result ≡ answer_for (refusal_of refusal) }
+// A value, or a refusal's number and place.
+fn answer_of(told: Result<u32, Refusal>) -> Answer
+    ensures { result ≡ answer_for (written_of told) }
 {
-    Answer {
-        refusal: refusal.number(),
-        value: refusal.place(),
+    match told {
+        Ok(value) => Answer { refusal: 0, value },
+        Err(refusal) => Answer {
+            refusal: refusal.number(),
+            value: refusal.place(),
+        },
     }
 }
 
@@ -86,11 +106,8 @@ pub fn zhevgulor_tables(
 ) -> Answer
     ensures { result ≡ answer_for (onward (tables_verdict (job_of nodes origins.now ends.now sources.now stops.now hops.now)) (λ fine. is 0)) }
 {
-    let verdict = job::tables(nodes, origins, ends, sources, stops, hops);
-    match verdict {
-        Verdict::Fine => value(0),
-        Verdict::Refused(refusal) => refused(refusal),
-    }
+    let lists = job_lists(nodes, origins, ends, sources, stops, hops);
+    answer_of(lists.tables().map(|()| 0))
 }
 
 // The greedy starts of a job: value is the number of packets, whose starts stand in the first places.
@@ -105,25 +122,36 @@ pub fn zhevgulor_starts(
 ) -> Answer
     ensures { LentAs (planned (job_of nodes origins.now ends.now sources.now stops.now hops.now) (length starts.old)) result starts.old starts.new }
 {
-    let verdict = planner::plan(nodes, origins, ends, sources, stops, hops, starts);
-    match verdict {
-        Verdict::Fine => value(sources.len() as u32),
-        Verdict::Refused(refusal) => refused(refusal),
-    }
+    let lists = job_lists(nodes, origins, ends, sources, stops, hops);
+    let planned = planner::plan(&lists, starts);
+    answer_of(planned.map(|()| sources.len() as u32))
 }
 
-// The four numbers of a clash, where there is room for them.
-fn shown(later: u16, earlier: u16, link: u16, step: Step, clash: &mut [u32]) -> Answer
-    ensures { LentAs (in_room (later ∷ earlier ∷ link ∷ step.0 ∷ []) (length clash.old)) result clash.old clash.new }
+// What a check found, in a lent list: the four numbers of a clash, where there is room for them, or nothing. And how many numbers it is.
+fn shown(found: Option<Clash>, numbers: &mut [u32]) -> Result<u32, Refusal>
+    ensures { WrittenAs (in_room (clash_numbers (found_of found)) (length numbers.old)) result numbers.old numbers.new }
 {
-    if clash.len() < 4 {
-        return refused(Refusal::ShortRoom);
+    let Some(clash) = found else {
+        return Ok(0);
+    };
+    if numbers.len() < 4 {
+        return Err(Refusal::ShortRoom);
     }
-    clash[0] = later as u32;
-    clash[1] = earlier as u32;
-    clash[2] = link as u32;
-    clash[3] = step.0;
-    value(4)
+    numbers[..4].copy_from_slice(&[
+        u32::from(clash.later),
+        u32::from(clash.earlier),
+        u32::from(clash.link),
+        clash.step.0,
+    ]);
+    Ok(4)
+}
+
+// The check of starts, and what it found in a lent list.
+fn checked(lists: &JobLists, starts: &[u16], numbers: &mut [u32]) -> Result<u32, Refusal>
+    ensures { WrittenAs (checked_in (job_in lists.now) starts.now (length numbers.old)) result numbers.old numbers.new }
+{
+    let found = planner::check(lists, starts)?;
+    shown(found, numbers)
 }
 
 // The check of starts made elsewhere: value 0 is clear, value 4 a clash, whose later packet, earlier packet, link and step
@@ -140,17 +168,8 @@ pub fn zhevgulor_check(
 ) -> Answer
     ensures { CheckPromise (job_of nodes origins.now ends.now sources.now stops.now hops.now) starts.now clash.old result clash.new }
 {
-    let checked = planner::check(nodes, origins, ends, sources, stops, hops, starts);
-    match checked {
-        Checked::Clear => value(0),
-        Checked::Refused(refusal) => refused(refusal),
-        Checked::Clash {
-            later,
-            earlier,
-            link,
-            step,
-        } => shown(later, earlier, link, step, clash),
-    }
+    let lists = job_lists(nodes, origins, ends, sources, stops, hops);
+    answer_of(checked(&lists, starts, clash))
 }
 
 // The lead of packet a over packet b on the link.
@@ -168,29 +187,18 @@ pub fn zhevgulor_lead(
 ) -> LeadAnswer
     ensures { result ≡ lead_for (led (job_of nodes origins.now ends.now sources.now stops.now hops.now) starts.now a b link) }
 {
-    let led = planner::lead(
-        nodes, origins, ends, sources, stops, hops, starts, a, b, link,
-    );
-    match led {
-        Led::By(difference) => LeadAnswer {
+    let lists = job_lists(nodes, origins, ends, sources, stops, hops);
+    match planner::lead(&lists, starts, a, b, link) {
+        Ok(lead) => LeadAnswer {
             refusal: 0,
             place: 0,
-            lead: difference,
+            lead,
         },
-        Led::Refused(why) => LeadAnswer {
-            refusal: why.number(),
-            place: why.place(),
+        Err(refusal) => LeadAnswer {
+            refusal: refusal.number(),
+            place: refusal.place(),
             lead: 0,
         },
-    }
-}
-
-fn told(text: Written) -> Answer
-    ensures { result ≡ answer_for (written_of text) }
-{
-    match text {
-        Written::Bytes(count) => value(count),
-        Written::Refused(refusal) => refused(refusal),
     }
 }
 
@@ -207,33 +215,33 @@ pub fn zhevgulor_plan_text(
 ) -> Answer
     ensures { LentAs (written (job_of nodes origins.now ends.now sources.now stops.now hops.now) starts.now (length room.old)) result room.old room.new }
 {
-    let text = plan_text::write(nodes, origins, ends, sources, stops, hops, starts, room);
-    told(text)
+    let lists = job_lists(nodes, origins, ends, sources, stops, hops);
+    answer_of(plan_text::write(&lists, starts, room))
 }
 
 // From a job's text to its plan's text: value is the number of bytes, which stand in the first places.
 pub fn zhevgulor_plan(job: &[u8], room: &mut [u8]) -> Answer
     ensures { PlanPromise job.now room.old result room.new }
 {
-    let text = plan_text::from_text::answer(job, room);
-    told(text)
+    answer_of(plan_text::from_text::answer(job, room))
 }
 
-fn counts(reading: Reading) -> ReadAnswer
-    ensures { result ≡ read_for (reading_of reading) }
+// How much of each thing a job has, or a refusal.
+fn counts_of(told: Result<Job, Refusal>) -> ReadAnswer
+    ensures { result ≡ read_for (reading_of told) }
 {
-    match reading {
-        Reading::Read(job) => ReadAnswer {
+    match told {
+        Ok(job) => ReadAnswer {
             refusal: 0,
             value: 0,
-            nodes: job.nodes as u32,
-            links: job.links as u32,
-            packets: job.packets as u32,
-            hops: job.hops as u32,
+            nodes: u32::from(job.nodes),
+            links: u32::from(job.links),
+            packets: u32::from(job.packets),
+            hops: u32::from(job.hops),
         },
-        Reading::Refused(reason) => ReadAnswer {
-            refusal: reason.number(),
-            value: reason.place(),
+        Err(refusal) => ReadAnswer {
+            refusal: refusal.number(),
+            value: refusal.place(),
             nodes: 0,
             links: 0,
             packets: 0,
@@ -253,8 +261,14 @@ pub fn zhevgulor_read(
 ) -> ReadAnswer
     ensures { ReadFor job.now result (lists origins.old ends.old sources.old stops.old hops.old) (lists origins.new ends.new sources.new stops.new hops.new) }
 {
-    let reading = job_text::read(job, origins, ends, sources, stops, hops);
-    counts(reading)
+    let mut lists = LentLists {
+        origins,
+        ends,
+        sources,
+        stops,
+        hops,
+    };
+    counts_of(job_text::read(job, &mut lists))
 }
 
 // From a plan's text to the starts that it says for a job as lists: value is the number of packets, whose starts stand in the
@@ -271,14 +285,9 @@ pub fn zhevgulor_read_plan(
 ) -> Answer
     ensures { ReadPlanPromise (job_of nodes origins.now ends.now sources.now stops.now hops.now) plan.now starts.old result starts.new }
 {
-    let verdict = plan_text::reading::read(
-        nodes, origins, ends, sources, stops, hops, plan, starts,
-    );
-    let packets = sources.len();
-    match verdict {
-        Verdict::Fine => value(packets as u32),
-        Verdict::Refused(refusal) => refused(refusal),
-    }
+    let lists = job_lists(nodes, origins, ends, sources, stops, hops);
+    let read = plan_text::reading::read(&lists, plan, starts);
+    answer_of(read.map(|()| sources.len() as u32))
 }
 
 fn about(text: u32, answer: Answer) -> TextsAnswer
@@ -296,16 +305,9 @@ fn about(text: u32, answer: Answer) -> TextsAnswer
 pub fn zhevgulor_check_texts(job: &[u8], plan: &[u8], clash: &mut [u32]) -> TextsAnswer
     ensures { CheckTextsPromise job.now plan.now clash.old result clash.new }
 {
-    let texts = checking::check(job, plan);
-    match texts {
-        Texts::Clear => about(0, value(0)),
-        Texts::Clash {
-            later,
-            earlier,
-            link,
-            step,
-        } => about(0, shown(later, earlier, link, step, clash)),
-        Texts::JobRefused(refusal) => about(1, refused(refusal)),
-        Texts::PlanRefused(refusal) => about(2, refused(refusal)),
+    match checking::check(job, plan) {
+        Ok(found) => about(0, answer_of(shown(found, clash))),
+        Err(Refused::Job(refusal)) => about(1, answer_of(Err(refusal))),
+        Err(Refused::Plan(refusal)) => about(2, answer_of(Err(refusal))),
     }
 }

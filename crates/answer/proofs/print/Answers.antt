@@ -3,13 +3,11 @@ use Rattle.std.proofs.Common.{arith}
 use Rattle.answer.proofs.Printing.{printed_fits, plan_printed, refusal_printed}
 use Rattle.answer.proofs.print.Goals as goal
 
-pub returns-in-Bytes-clause-printed_as : goal.returns-in-Bytes-clause-printed_as
-returns-in-Bytes-clause-printed_as c = plan_printed _ _ (omega (arith, c.told-room)) c.answer-told.ensures _ c.in-Bytes.is
+pub returns-in-Ok-clause-printed_as : goal.returns-in-Ok-clause-printed_as
+returns-in-Ok-clause-printed_as c = plan_printed _ _ (omega (arith, c.answer-room)) _ c.in-Ok.ensures
 
-pub returns-in-Bytes-clause-near : goal.returns-in-Bytes-clause-near
-returns-in-Bytes-clause-near c = printed_fits (plan_printed _ _ (omega (arith, c.told-room)) c.answer-told.ensures _ c.in-Bytes.is)
+pub returns-in-Ok-clause-near : goal.returns-in-Ok-clause-near
+returns-in-Ok-clause-near c = printed_fits (plan_printed _ _ (omega (arith, c.answer-room)) _ c.in-Ok.ensures)
 
-pub returns-in-Refused-clause-printed_as : goal.returns-in-Refused-clause-printed_as
-returns-in-Refused-clause-printed_as c =
-    refusal_printed _ _ (omega (arith, c.told-room)) c.answer-told.ensures _ c.in-Refused.is c.number-number.ensures c.place-place.ensures
-    c.line_of_two.ensures.put
+pub returns-in-Err-clause-printed_as : goal.returns-in-Err-clause-printed_as
+returns-in-Err-clause-printed_as c = refusal_printed _ _ (omega (arith, c.answer-room)) _ c.in-Err.ensures c.refusal_line.ensures.put

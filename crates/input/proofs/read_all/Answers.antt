@@ -12,9 +12,9 @@ grown a k n xs ys within fits =
     ap (λ m. take (m + n) (put_mid a k xs ys)) (sym (length-take-le a xs within)) ∙ take-append-add (take a xs) _ n
     ∙ ap (λ l. take a xs ++ l) (take-append-le n ys _ fits)
 
-pub loop-done-preserved : goal.loop-done-preserved
-loop-done-preserved g c = (
+pub loop-bytes-preserved : goal.loop-bytes-preserved
+loop-bytes-preserved g c = (
   search rules,
-  subst (Consumes _ _) (sym (grown _ _ _ _ _ c.loop-done.invariant.0 c.in-Ok.ensures.bound.0))
-      (Consumes-trans _ _ _ _ _ c.loop-done.invariant.1 c.in-Ok.ensures.bytes.0),
+  subst (Consumes _ _) (sym (grown _ _ _ _ _ c.loop-bytes.invariant.0 c.in-Ok.ensures.bound.0))
+      (Consumes-trans _ _ _ _ _ c.loop-bytes.invariant.1 c.in-Ok.ensures.bytes.0),
 )

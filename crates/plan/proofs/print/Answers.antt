@@ -1,9 +1,10 @@
 -- All that the reader has is what was read, up to a byte more than a text may have, and what is printed for it stands first in the room.
-use Rattle.std.proofs.Common.{rules, arith, refl, sym, ap, ◌∙◌, subst, ◌≡◌, ℕ, ◌+◌, ◌-◌, ◌<◌, ◌≤◌, List, [], ◌++◌, length, take, Option, None, Some, IfSome}
+use Rattle.std.proofs.Common.{rules, arith, refl, sym, ap, ◌∙◌, subst, ◌≡◌, ℕ, ◌+◌, ◌-◌, ◌<◌, ◌≤◌, List, [], ◌++◌, length, take, Option, None, Some, IfSome, Result, Ok, Err, OnOk}
 use Rattle.std.proofs.Common.{inl, inr, take_all, length-take-le, append-nil}
 use Rattle.std.proofs.Math.Seq.{take-append_seam, take-length}
 use Rattle.std.proofs.lemmas.Bool.{cases_lt}
 use borrow.Author.Tests.{lt-leb}
+use Rattle.std.specs.Result.{is_ok}
 use Rattle.std.specs.Io.KnownBytes.{Appends, Consumes, IsAtEnd}
 use Rattle.rules.specs.Answers.{answer, printed, plans}
 use Rattle.rules.specs.JobText.{reading}
@@ -44,7 +45,16 @@ handed_on (Some xs) (Some ys) old new text lent room n count long fits read end 
     let all : n - 0 ≡ n = omega arith in
     subst (Appends old new) (first ∙ ap plans (ap (λ m. take m text) all ∙ sym same ∙ ap (λ m. take m xs) long) ∙ as_of_all xs) written
 
-pub returns-in-Ok-clause-written : goal.returns-in-Ok-clause-written
-returns-in-Ok-clause-written g c =
-    handed_on _ _ _ _ _ _ _ _ _ (search rules) c.read_all-input.ensures.near c.read_all-input.ensures.in_order
-    (c.read_all-input.ensures.to_the_end (search rules)) c.print-count.ensures.printed_as c.in-Ok.ensures.bytes
+-- another error in place of the one that there is says no more of what is written
+on_other_error : {T E F P Q : Type 0} (r : Result T E) (s : Result T F) → is_ok s ≡ is_ok r → (P → Q) → OnOk r P → OnOk s Q
+on_other_error (Ok x) (Ok y) same weaker p = weaker p
+on_other_error (Ok x) (Err e) same weaker p = tt
+on_other_error (Err e) (Ok x) same weaker p = absurd (cc)
+on_other_error (Err e) (Err f) same weaker p = tt
+
+pub returns-clause-written : goal.returns-clause-written
+returns-clause-written g c =
+    on_other_error _ _ c.map_err.ensures.variant
+    (handed_on _ _ _ _ _ _ _ _ _ (search rules) c.in_ok-bytes.ensures.near c.in_ok-bytes.ensures.in_order
+    c.in_ok-bytes.ensures.to_the_end c.print-count.ensures.printed_as)
+    c.write_all.ensures.bytes
