@@ -33,14 +33,13 @@ module _ {path firsts nexts steps words₀ words : List ℕ} {hop offset : ℕ} 
     unfolding ruled_out link_claims
     ruled_out_next s = rw (from_place path hop more)
 
-    pub marked_turn : {from to : ℕ} → from ≡ get_or firsts l 0 → to ≡ get_or nexts l 0
-        → MarkedSoFar path firsts nexts steps words₀ (with_starts offset (take (to - from) (drop from steps)) words) (hop + 1) (offset + one_step l)
-    unfolding entered steps_on
-    marked_turn {from} {to} is_first is_next =
-        let part = take (to - from) (drop from steps) in record {
+    pub marked_turn : MarkedSoFar path firsts nexts steps words₀ (with_starts offset (steps_on firsts nexts steps l) words) (hop + 1) (offset + one_step l)
+    unfolding entered
+    marked_turn =
+        let part = steps_on firsts nexts steps l in record {
           words_length = length-with_starts offset part words ∙ so_far.words_length;
           marks = λ s within.
-              rw (marked-with_starts offset part words s (omega (arith, so_far.words_length)), is_first, is_next, or_assoc)
+              rw (marked-with_starts offset part words s (omega (arith, so_far.words_length)), or_assoc)
               (rw (ruled_out_next s) at (so_far.marks s within));
         }
 
