@@ -88,9 +88,6 @@ pub record EnteredToPacket (stops hops starts nexts₀ steps₀ nexts steps : Li
   pub so_far : EnteredSoFar hops (all_steps (packets stops hops starts)) nexts₀ steps₀
       (drop (begin_from 0 stops k) hops) (all_steps (drop k (packets stops hops starts))) nexts steps
 
-pub each_start : {stops hops starts nexts steps : List ℕ} → EnteredToPacket stops hops starts nexts steps nexts steps 0
-each_start = record { so_far = entered-start }
-
 module _ {stops hops starts nexts₀ steps₀ nexts steps : List ℕ} {k : ℕ} (simple : SimplePaths stops hops) (same : length starts ≡ length stops)
     (w : EnteredToPacket stops hops starts nexts₀ steps₀ nexts steps k) where
   module _ (l : k < length stops) (path : List ℕ) (is_path : path ≡ path_at stops hops k) where

@@ -59,7 +59,8 @@ fn start_each(
     }
 }
 
-// Writes the greedy starts, packet by packet, over the first places.
+// Writes the greedy starts, packet by packet, over the first places. Nothing is allocated: the entries and the marks are arrays of the
+// greatest sizes.
 pub(crate) fn fill(paths: &Paths, starts: &mut [u16])
     requires { length paths.now.stops.now ≤ length starts.old }
     ensures { starts.new ≡ greedy_starts paths.now.stops.now paths.now.hops.now ++ drop (length paths.now.stops.now) starts.old }
@@ -94,15 +95,10 @@ pub fn plan(lists: &JobLists, starts: &mut [u16]) -> Result<(), Refusal>
     ensures { PlannedAs (planned (job_in lists.now) (length starts.old)) result starts.old starts.new }
 {
     lists.tables()?;
-    let JobLists {
-        sources,
-        stops,
-        hops,
-        ..
-    } = *lists;
-    if starts.len() < sources.len() {
+    if starts.len() < lists.sources.len() {
         return Err(Refusal::ShortRoom);
     }
+    let JobLists { stops, hops, .. } = *lists;
     fill(&Paths { stops, hops }, starts);
     Ok(())
 }

@@ -105,7 +105,7 @@ impl Started<'_> {
         board.first_again(links, self.paths.hops, words)
     }
 
-    // The same, with rooms of its own.
+    // The same, with rooms of its own: nothing is allocated, so they are arrays of the greatest sizes.
     fn first_conflict(&self) -> Option<usize>
         ensures { FirstAgain self.now.paths.hops.now (all_steps (packets_in self.now)) result }
     {
