@@ -1,10 +1,10 @@
 -- Ruling starts out along a path: what the marks come to.
-use mathlib.Core.Path.{◌≡◌, refl, sym, ◌∙◌}
+use mathlib.Core.Path.{◌≡◌, sym, ◌∙◌}
 use mathlib.Core.Bool.{◌||◌, or-false, or_assoc}
 use mathlib.Core.List.{List}
-use Prim.Native.Nat.{ℕ, ◌+◌, ◌-◌, ◌*◌, ◌≤◌, ◌<◌}
+use Prim.Native.Nat.{ℕ, ◌+◌, ◌*◌, ◌≤◌, ◌<◌}
 use native.Mathlib.Omega.{arith}
-use lib.ListN.{length, get_or, take, drop, drop_of_length-le}
+use lib.ListN.{length, get_or, drop, drop_of_length-le}
 use Rattle.counting.proofs.Places.{from_place}
 use Rattle.rules.specs.Travel.{one_step}
 use Rattle.rules.specs.Claims.{link_claims}
@@ -19,9 +19,6 @@ pub record MarkedSoFar (path firsts nexts steps words₀ words : List ℕ) (hop 
   pub marks : (s : ℕ) → s < 64 * length words₀
       → (marked words s || ruled_out firsts nexts steps (link_claims one_step offset (drop hop path)) s)
       ≡ (marked words₀ s || ruled_out firsts nexts steps (path_claims path) s)
-
-pub marked_start : {path firsts nexts steps words : List ℕ} → MarkedSoFar path firsts nexts steps words words 0 0
-marked_start = record { words_length = refl; marks = λ s within. refl }
 
 module _ {path firsts nexts steps words₀ words : List ℕ} {hop offset : ℕ} (so_far : MarkedSoFar path firsts nexts steps words₀ words hop offset) where
   module _ (more : hop < length path) where

@@ -146,10 +146,22 @@ impl Board {
     }
 
     // The first hop, in list order, that enters its link in a step in which a hop before it does, if one does.
-    pub(crate) fn first_again(&mut self, links: usize, hops: &[u16], words: &mut [u64]) -> Option<usize>
+    pub(crate) fn first_again(
+        &mut self,
+        links: usize,
+        hops: &[u16],
+        words: &mut [u64],
+    ) -> Option<usize>
         requires { Below hops.now links × Cuttable links self.old.firsts self.old.nexts self.old.steps words.old }
         ensures { (all : List ℕ) → InOrder hops.now all self.old.firsts self.old.nexts self.old.steps → FirstAgain hops.now all result }
     {
-        first_again(links, hops, &mut self.firsts, &mut self.nexts, &self.steps, words)
+        first_again(
+            links,
+            hops,
+            &mut self.firsts,
+            &mut self.nexts,
+            &self.steps,
+            words,
+        )
     }
 }

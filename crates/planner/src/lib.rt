@@ -39,12 +39,7 @@ pub fn enters(path: &[u16], start: u16, link: u16, step: Step) -> bool
 }
 
 // Starts one packet after the other, over the first places: each searches among the entries of those before it and then adds its own.
-fn start_each(
-    paths: &Paths,
-    starts: &mut [u16],
-    board: &mut Board,
-    words: &mut [u64],
-)
+fn start_each(paths: &Paths, starts: &mut [u16], board: &mut Board, words: &mut [u64])
     requires { (length paths.now.stops.now ≤ length starts.old)
         × EntriesBefore paths.now.stops.now paths.now.hops.now starts.old 0 board.old.firsts board.old.nexts board.old.steps × (hops_most < 64 * length words.old) }
     ensures { starts.new ≡ greedy_starts paths.now.stops.now paths.now.hops.now ++ drop (length paths.now.stops.now) starts.old }
