@@ -59,7 +59,7 @@ fn offset_after(offset: u16, link: u16) -> u16
 
 // The entries of all links: a room for each, from where its first entry stands to where its next will, over the steps.
 #[derive(Drop)]
-pub(crate) struct Board {
+pub(crate) struct Entries {
     firsts: [u16; Job::LINKS],
     nexts: [u16; Job::LINKS],
     steps: [u16; Job::HOPS],
@@ -69,12 +69,12 @@ pub(crate) struct Board {
     ghost steps_fit: { (i : ℕ) → get_or steps i 0 ≤ widest },
 }
 
-impl Board {
+impl Entries {
     // Nobody has a room yet.
-    pub(crate) fn empty() -> Board
+    pub(crate) fn empty() -> Entries
         ensures { ((link : ℕ) → get_or result.firsts link 0 ≡ 0) × ((link : ℕ) → get_or result.nexts link 0 ≡ 0) }
     {
-        Board {
+        Entries {
             firsts: [0; Job::LINKS],
             nexts: [0; Job::LINKS],
             steps: [0; Job::HOPS],
@@ -95,7 +95,7 @@ impl Board {
     }
 
     // The steps in which the link is entered.
-    fn entries(&self, link: u16) -> &[u16]
+    fn steps_on(&self, link: u16) -> &[u16]
         requires { (link < links_most) × Parts self.now.firsts self.now.nexts (length self.now.steps) }
         ensures { result.now ≡ steps_on self.now.firsts self.now.nexts self.now.steps link }
     {
@@ -111,7 +111,7 @@ impl Board {
     {
         let mut offset = 0;
         for &link in path {
-            marks::mark_starts(self.entries(link), usize::from(offset), words);
+            marks::mark_starts(self.steps_on(link), usize::from(offset), words);
             offset = offset_after(offset, link);
         }
     }

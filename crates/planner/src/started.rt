@@ -12,7 +12,7 @@ ghost use Rattle.planner.specs.Again.{FirstAgain};
 ghost use Rattle.planner.specs.EntriesAdded.{all_steps, EntriesAdded};
 ghost use Rattle.marks.specs.Marks.{unmarked};
 
-use crate::entries::Board;
+use crate::entries::Entries;
 use crate::paths::Paths;
 use crate::{Clash, enters};
 use job::{Hop, Step};
@@ -82,37 +82,42 @@ impl Started<'_> {
     }
 
     // Enters every packet at its start, one after the other.
-    fn enter_each(&self, board: &mut Board)
-        requires { Enterable self.now.paths.hops.now start_most board.old.nexts (length board.old.steps) }
-        ensures by_index { (link : ℕ) → get_or board.new.nexts link 0 ≡ get_or board.old.nexts link 0 + occurs link self.now.paths.hops.now }
+    fn enter_each(&self, entries: &mut Entries)
+        requires { Enterable self.now.paths.hops.now start_most entries.old.nexts (length entries.old.steps) }
+        ensures by_index { (link : ℕ) → get_or entries.new.nexts link 0 ≡ get_or entries.old.nexts link 0 + occurs link self.now.paths.hops.now }
         ensures entries { EntriesAdded self.now.paths.hops.now (all_steps (packets_in self.now))
-            board.old.nexts board.old.steps board.new.nexts board.new.steps }
-        ensures rooms { board.new.firsts ≡ board.old.firsts }
+            entries.old.nexts entries.old.steps entries.new.nexts entries.new.steps }
+        ensures rooms { entries.new.firsts ≡ entries.old.firsts }
     {
         for (packet, &start) in self.starts.iter().enumerate() {
-            board.enter(self.paths.path(packet), start);
+            entries.enter(self.paths.path(packet), start);
         }
     }
 
     // The first hop, in list order, that enters its link in a step in which a hop before it does, by way of the entries in the rooms that
     // are lent, if one does.
-    fn conflict_among(&self, links: usize, board: &mut Board, words: &mut [u64]) -> Option<usize>
-        requires { EntriesBefore self.now.paths.stops.now self.now.paths.hops.now self.now.starts.now 0 board.old.firsts board.old.nexts board.old.steps
+    fn conflict_among(
+        &self,
+        links: usize,
+        entries: &mut Entries,
+        words: &mut [u64],
+    ) -> Option<usize>
+        requires { EntriesBefore self.now.paths.stops.now self.now.paths.hops.now self.now.starts.now 0 entries.old.firsts entries.old.nexts entries.old.steps
             × OnLinks links self.now.paths.hops.now × (widest < 64 * length words.old) × (words.old ≡ unmarked (length words.old)) }
         ensures { FirstAgain self.now.paths.hops.now (all_steps (packets_in self.now)) result }
     {
-        self.enter_each(board);
-        board.first_again(links, self.paths.hops, words)
+        self.enter_each(entries);
+        entries.first_again(links, self.paths.hops, words)
     }
 
     // The same, with rooms of its own: nothing is allocated, so they are arrays of the greatest sizes.
     fn first_conflict(&self) -> Option<usize>
         ensures { FirstAgain self.now.paths.hops.now (all_steps (packets_in self.now)) result }
     {
-        let mut board = Board::empty();
+        let mut entries = Entries::empty();
         let mut words = [0u64; STEP_WORDS];
-        let links = board.make_room(self.paths.hops);
-        self.conflict_among(links, &mut board, &mut words)
+        let links = entries.make_room(self.paths.hops);
+        self.conflict_among(links, &mut entries, &mut words)
     }
 
     // The clash of the lowest packet that conflicts with one listed before it.

@@ -45,7 +45,7 @@ enter-requires c =
 pub loop-k-preserved : goal.loop-k-preserved
 loop-k-preserved c = (
   one_more _ _ _ _ _ (omega arith) c.requires.0 c.loop-k.invariant.0 _ (found (goal.at.loop-k-preserved c).After-search-start),
-  let before = c.loop-k.board in
+  let before = c.loop-k.entries in
       let after = c.enter.new.self in
       rw c.enter.ensures.rooms
       (entries_next _ _ _ _ _ (omega arith) (omega (arith, c.requires.0, c.loop-k.auto.starts)) c.args.paths.now.simple _ _ _ c.loop-k.invariant.1

@@ -13,7 +13,7 @@ loop-packet-preserved c =
     let s = c.args.self.now in (
       c.enter.ensures.rooms ∙ c.loop-packet.invariant.0,
       each_turn s.paths.simple s.as_many c.loop-packet.invariant.1 (omega (arith, s.as_many)) _ c.path.ensures
-          (c.enter.new.self.nexts_length ∙ sym c.loop-packet.board.nexts_length) (c.enter.new.self.steps_length ∙ sym c.loop-packet.board.steps_length) c.enter.ensures.by_index c.enter.ensures.entries,
+          (c.enter.new.self.nexts_length ∙ sym c.loop-packet.entries.nexts_length) (c.enter.new.self.steps_length ∙ sym c.loop-packet.entries.steps_length) c.enter.ensures.by_index c.enter.ensures.entries,
     )
 
 pub returns-clause-by_index : goal.returns-clause-by_index

@@ -5,5 +5,5 @@ use Rattle.planner.proofs.started.Started.enter_each.Given as goal
 
 abbrev pub invariant-loop-packet : goal.invariant-loop-packet
 invariant-loop-packet l =
-    (l.board.firsts ≡ l.initial.board.firsts)
-    × EnteredToPacket l.self.paths.stops.now l.self.paths.hops.now l.self.starts.now l.initial.board.nexts l.initial.board.steps l.board.nexts l.board.steps l.packet
+    (l.entries.firsts ≡ l.initial.entries.firsts)
+    × EnteredToPacket l.self.paths.stops.now l.self.paths.hops.now l.self.starts.now l.initial.entries.nexts l.initial.entries.steps l.entries.nexts l.entries.steps l.packet

@@ -1,7 +1,7 @@
 -- What is entered so far and what is left of the path together are what the whole path enters.
 use Rattle.std.proofs.Common.{◌≡◌, ◌≤◌}
 use Rattle.planner.proofs.EnteringLinks.{EnteredToHop}
-use Rattle.planner.proofs.entries.Board.enter.Given as goal
+use Rattle.planner.proofs.entries.Entries.enter.Given as goal
 
 abbrev pub invariant-loop-link : goal.invariant-loop-link
 invariant-loop-link l =

@@ -1,7 +1,7 @@
 -- A hop more is entered, and past the last none is left.
 use Rattle.std.proofs.Common.{◌<◌, length, get_or, arith}
 use Rattle.planner.proofs.EnteringLinks.{path_turn, path_added}
-use Rattle.planner.proofs.entries.Board.enter.Goals as goal
+use Rattle.planner.proofs.entries.Entries.enter.Goals as goal
 
 pub loop-link-preserved : goal.loop-link-preserved
 loop-link-preserved c =

@@ -1,7 +1,7 @@
 -- What is marked so far and what is left of the path together rule out what the whole path does.
 use Rattle.std.proofs.Common.{◌≤◌}
 use Rattle.planner.proofs.RulingOut.{MarkedSoFar}
-use Rattle.planner.proofs.entries.Board.rule_out.Given as goal
+use Rattle.planner.proofs.entries.Entries.rule_out.Given as goal
 
 abbrev pub invariant-loop-link : goal.invariant-loop-link
 invariant-loop-link l =
