@@ -13,7 +13,7 @@ use Rattle.counting.proofs.Places.{some_same, none_not_some}
 use Rattle.rules.specs.Bytes.{number_of, cons_onto, numbers_of}
 use Rattle.lines.specs.declared.reading.Copied.{Copied}
 use Rattle.lines.specs.Behind.{line_end, fields_behind, copied, in_front, leading}
-use Rattle.lines.proofs.BehindPlaces.{NoneBehind, SaidBehind}
+use Rattle.lines.proofs.BehindPlaces.{NoneBehind, SaidBehind, unsaid_behind, none_behind}
 
 -- so many numbers and those that are left
 abbrev more : ℕ → Option (List ℕ) → ℕ → Answer Copied
@@ -73,6 +73,9 @@ module _ {text : List ℕ} {at : ℕ} {list₀ : List ℕ} {from : ℕ} {list : 
       → (Some (record { count = count; end = place }) ≡ copied (numbers_of (fields_behind text at)) (line_end text at)) × (list ≡ sets list₀ from (leading (fields_behind text at)))
   unfolding numbers_of leading
   copied_all n = (sym (c.counted ∙ rw (n.fields, n.ends, add-zero)), sym (c.stored ∙ rw n.fields))
+
+-- at a field that says no number, and where there is none, no more is copied
+pub ruleset copied_here = (unsaid_behind, none_behind, copied_none, copied_all)
 
 -- ---- all numbers
 

@@ -15,17 +15,16 @@ use Rattle.counting.proofs.Places.{from_place}
 use Rattle.rules.specs.Sizes.{number_most}
 use Rattle.rules.specs.Bytes.{tab, line_feed, value_after, number_of}
 use Rattle.std.proofs.Common.{Ok, Err}
-use Rattle.lines.specs.declared.reading.Number.{Number}
 use Rattle.lines.specs.declared.reading.Absent.TheVariants.{NoNumber}
 use Rattle.lines.specs.Behind.{ends_here, field_rest, field_at}
 use Rattle.lines.proofs.Digits.{value_low, value_high, value_over, value_on, number_empty, number_zero, number_one, number_many}
 
 -- ---- where a field ends
 
-pub ends_past : (text : List ℕ) (at : ℕ) → length text ≤ at → ends_here (drop at text) ≡ true
+ends_past : (text : List ℕ) (at : ℕ) → length text ≤ at → ends_here (drop at text) ≡ true
 ends_past text at h = rw (drop_of_length-le text h)
 
-pub ends_byte : (text : List ℕ) (at : ℕ) → at < length text → ends_here (drop at text) ≡ (eqb (get_or text at 0) tab || eqb (get_or text at 0) line_feed)
+ends_byte : (text : List ℕ) (at : ℕ) → at < length text → ends_here (drop at text) ≡ (eqb (get_or text at 0) tab || eqb (get_or text at 0) line_feed)
 ends_byte text at h = rw (from_place text at h)
 
 field-ended : (bs : List ℕ) → ends_here bs ≡ true → field_rest bs ≡ []
@@ -47,7 +46,7 @@ module _ (text : List ℕ) (i : ℕ) where
   open_within : ends_here (drop i text) ≡ false → i < length text
   open_within e = elim (dec_lt i (length text)) [
     | yes h ↦ h
-    | no h ↦ absurd (let w = sym (ends_past text i (omega arith)) ∙ e in let z : ◌≡◌ {A = ℕ} 0 1 = cc in omega arith)
+    | no h ↦ absurd (let w = sym (ends_past text i (omega arith)) ∙ e in cc)
   ]
 
   -- a digit does not end it
@@ -97,7 +96,7 @@ module _ {text : List ℕ} {begin value i : ℕ} (r : Digits text begin value i)
   no_number e = rw (valueless (field_rest (drop begin text)) (r.worth ∙ e))
 
   -- a byte below the digits that does not end the field
-  pub digits_low : ends_here (drop i text) ≡ false → ((i < length text) → byte < 48) → field_at text begin ≡ Err NoNumber
+  pub digits_low : ends_here (drop i text) ≡ false → (i < length text → byte < 48) → field_at text begin ≡ Err NoNumber
   digits_low e l =
       let h = open_within text i e in
       no_number (rw (field_open text i e h) (value_low (byte ∷ field_rest (drop (i + 1) text)) 0 value (omega arith) (l h)))
@@ -113,13 +112,13 @@ module _ {text : List ℕ} {begin value i : ℕ} (r : Digits text begin value i)
       pub digits_over : number_most < more → field_at text begin ≡ Err NoNumber
       digits_over o = no_number (rw (digit_open text i h l) (value_over here 0 value (omega arith) l m o))
 
-      pub digits_turn : more ≤ number_most → Digits text begin more (i + 1)
-      digits_turn o = record {
-        small = o;
+      pub digits_turn : {next : ℕ} → next ≡ more → next ≤ number_most → Digits text begin next (i + 1)
+      digits_turn e o = rw e (record {
+        small = omega arith;
         from = let f = r.from in omega arith;
         ahead = r.ahead ∙ rw (digit_open text i h l) (omega arith);
-        worth = r.worth ∙ rw (digit_open text i h l) (value_on here 0 value (omega arith) l m o);
-      }
+        worth = r.worth ∙ rw (digit_open text i h l) (value_on here 0 value (omega arith) l m (omega arith));
+      })
 
   -- the field ends at this place
   module _ (e : ends_here (drop i text) ≡ true) where
@@ -171,5 +170,7 @@ module _ (text : List ℕ) (begin : ℕ) where
     pub first_high : 57 < get_or text begin 0 → field_at text begin ≡ Err NoNumber
     first_high m = digits_high start h l m
 
-    pub first_digit : get_or text begin 0 ≤ 57 → Digits text begin (get_or text begin 0 - 48) (begin + 1)
-    first_digit m = let one : 0 * 10 + (get_or text begin 0 - 48) ≡ get_or text begin 0 - 48 = omega arith in rw one at (digits_turn start h l m (omega arith))
+    pub first_digit : get_or text begin 0 ≤ 57 → {value : ℕ} → value ≡ get_or text begin 0 - 48 → Digits text begin value (begin + 1)
+    first_digit m e = digits_turn start h l m (omega arith) (omega arith)
+
+pub ruleset digit_steps = (no_first, first_low, first_high, digits_low, digits_high, digits_over, digits-zero, digits_done)

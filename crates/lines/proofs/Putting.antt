@@ -1,15 +1,16 @@
 -- Texts written one after another: both together are written, and what is left of the whole after the first is the second.
 use mathlib.Core.Path.{◌≡◌, sym, ◌∙◌}
 use mathlib.Core.List.{List, [], ◌∷◌, ◌++◌}
-use Prim.Native.Nat.{ℕ, suc, ◌+◌, ◌≤◌, ◌<◌}
+use Prim.Native.Nat.{ℕ, suc, ◌+◌, ◌/◌, ◌^◌, ◌≤◌, ◌<◌}
 use native.Mathlib.Omega.{arith}
 use lib.ListN.{length, get_or, drop, set, length-append, drop_of_length-le}
 use lib.Seq.{sets}
 use Rattle.counting.proofs.Places.{from_place}
 use Rattle.rules.specs.Bytes.{tab, line_feed, decimal, fields_text, line_text}
+use Rattle.theorems.proofs.Numbers.{decimal_small, decimal-more, decimal-length-le}
 use Rattle.lines.specs.Put.{Put}
 
-sets-append : (l : List ℕ) (at : ℕ) (xs ys : List ℕ) → sets l at (xs ++ ys) ≡ sets (sets l at xs) (at + length xs) ys
+pub sets-append : (l : List ℕ) (at : ℕ) (xs ys : List ℕ) → sets l at (xs ++ ys) ≡ sets (sets l at xs) (at + length xs) ys
 sets-append l at [] ys = let z : at + 0 ≡ at = omega arith in rw z
 sets-append l at (x ∷ xs) ys = let z : at + suc (length xs) ≡ suc at + length xs = omega arith in rw z (sets-append (set l at x) (suc at) xs ys)
 
@@ -25,6 +26,14 @@ module _ {before between after xs ys : List ℕ} {at middle next : ℕ} where
     stored = q.stored ∙ rw (p.stored, p.past) (sets-append before at xs ys);
     past = omega (arith, p.past, q.past, length-append xs ys);
   }
+
+-- ---- a number
+
+-- no more than nine digits stand in front of the last
+pub front_short : (n : ℕ) → n < 2 ^ 32 → length (decimal (n / 10)) ≤ 9
+front_short n h = decimal-length-le 8 (n / 10) (omega arith)
+
+pub ruleset number_steps = (front_short, decimal_small, decimal-more, sets-append, length-append)
 
 -- ---- a line
 
@@ -47,3 +56,6 @@ module _ {before : List ℕ} {at letter : ℕ} {numbers room : List ℕ} {place 
       → Put before at (line_text letter numbers) after next
   unfolding fields_text
   fields_done h p = w.rest (rw (drop_of_length-le numbers {i = k} h) p)
+
+-- what is left when all but one step of them is done
+pub ruleset line_steps = (fields_start, fields_turn)

@@ -1,21 +1,19 @@
 // Reading of text: the line cursor, the fields of a line, and the numbers that fields say. Each function answers at any place.
-ghost use Rattle.std.specs.Prelude.{◌≡◌, drop};
+ghost use Rattle.std.specs.Prelude.{◌≡◌, [], ◌∷◌, drop};
 ghost use Rattle.std.proofs.lemmas.List.Edits.{sets};
 ghost use Rattle.rules.specs.Bytes.{numbers_of, begins};
 ghost use Rattle.lines.specs.Cursor.{cursor_at, line_after, top_line};
 ghost use Rattle.lines.specs.Behind.{letter_of, ends_here, field_at, first_field, fields_behind, line_end, copied, leading};
 
-const TAB: u8 = 9;
+const TAB: u8 = b'\t';
 
-const LINE_FEED: u8 = 10;
+const LINE_FEED: u8 = b'\n';
 
-const ZERO: u8 = 48;
+const ZERO: u8 = b'0';
 
-const NINE: u8 = 57;
+const NINE: u8 = b'9';
 
 const NUMBER_MOST: u32 = 65535;
-
-const LINE_MOST: u32 = 4294967295;
 
 // Where a line begins, and its number.
 #[derive(Clone, Copy, Debug, PartialEq, Eq)]
@@ -28,7 +26,7 @@ pub struct Lines {
 fn line_after(line: u32) -> u32
     ensures { result ≡ line_after line }
 {
-    if line < LINE_MOST { line + 1 } else { line }
+    line.saturating_add(1)
 }
 
 impl Lines {
@@ -68,27 +66,16 @@ pub enum Absent {
 pub fn begins_at(text: &[u8], at: usize, byte: u8) -> bool
     ensures { result ≡ begins byte (drop at text.now) }
 {
-    if at < text.len() {
-        text[at] == byte
-    } else {
-        false
-    }
+    text.get(at) == Some(&byte)
 }
 
 // The byte at a place, if a tab stands behind it.
 pub fn letter_at(text: &[u8], at: usize) -> Option<u8>
     ensures { result ≡ letter_of (drop at text.now) }
 {
-    if at >= text.len() {
-        return None;
-    }
-    if text.len() - at < 2 {
-        return None;
-    }
-    if text[at + 1] == TAB {
-        Some(text[at])
-    } else {
-        None
+    match text.get(at..) {
+        Some([letter, TAB, ..]) => Some(*letter),
+        _ => None,
     }
 }
 
@@ -96,67 +83,59 @@ pub fn letter_at(text: &[u8], at: usize) -> Option<u8>
 fn ends_at(text: &[u8], at: usize) -> bool
     ensures { result ≡ ends_here (drop at text.now) }
 {
-    if at >= text.len() {
-        return true;
-    }
-    let byte = text[at];
-    byte == TAB || byte == LINE_FEED
+    text.get(at)
+        .is_none_or(|&byte| byte == TAB || byte == LINE_FEED)
 }
 
 // The number of the field that begins at a place of a text, and where the field ends. The first digit is read by itself, so that the loop
-// has nothing to tell apart.
+// has nothing to tell apart. It goes by index: over the slice behind that digit a path's numbers take a seventh longer.
+#[tactic(auto, using(crate::proofs::DigitsBehind::digit_steps))]
 fn number_at(text: &[u8], begin: usize) -> Result<Number, Absent>
     ensures { result ≡ field_at text.now begin }
 {
-    if begin >= text.len() {
+    let Some(&first) = text.get(begin) else {
+        return Err(Absent::NoNumber);
+    };
+    if !first.is_ascii_digit() {
         return Err(Absent::NoNumber);
     }
-    let first = text[begin];
-    if first < ZERO {
-        return Err(Absent::NoNumber);
-    }
-    if first > NINE {
-        return Err(Absent::NoNumber);
-    }
-    let mut value: u32 = (first - ZERO) as u32;
-    let mut i = begin + 1;
-    while i < text.len() {
+    let mut value = u32::from(first - ZERO);
+    let mut end = text.len();
+    for i in begin + 1..text.len() {
         let digit = text[i];
         if digit < ZERO {
+            end = i;
             break;
         }
         if digit > NINE {
             return Err(Absent::NoNumber);
         }
-        value = value * 10 + (digit - ZERO) as u32;
+        value = value * 10 + u32::from(digit - ZERO);
         if value > NUMBER_MOST {
             return Err(Absent::NoNumber);
         }
-        i += 1;
     }
-    if !ends_at(text, i) {
+    if !ends_at(text, end) {
         return Err(Absent::NoNumber);
     }
-    if i - begin > 1 && first == ZERO {
+    if end - begin > 1 && first == ZERO {
         return Err(Absent::NoNumber);
     }
     Ok(Number {
         value: value as u16,
-        end: i,
+        end,
     })
 }
 
 // The field behind one that ends at a place of a text, in the same line.
+#[tactic(auto, using(crate::proofs::BehindPlaces::told_behind))]
 pub fn field_behind(text: &[u8], at: usize) -> Result<Number, Absent>
     ensures { result ≡ first_field (fields_behind text.now at) at }
 {
-    if at >= text.len() {
-        return Err(Absent::NoField);
+    match text.get(at) {
+        None | Some(&LINE_FEED) => Err(Absent::NoField),
+        Some(_) => number_at(text, at + 1),
     }
-    if text[at] == LINE_FEED {
-        return Err(Absent::NoField);
-    }
-    number_at(text, at + 1)
 }
 
 // How many numbers stand behind a place, and where their line ends.
@@ -168,20 +147,22 @@ pub struct Copied {
 
 // Copies the numbers behind a place, up to a field that says none, into a list from a place on, as far as the list goes. None where a
 // field of the line says no number.
+#[tactic(auto, using(crate::proofs::CopyingNumbers::copied_here))]
 pub fn copy_behind(text: &[u8], at: usize, list: &mut [u16], from: usize) -> Option<Copied>
     ensures { (result ≡ copied (numbers_of (fields_behind text.now at)) (line_end text.now at))
         × (list.new ≡ sets list.old from (leading (fields_behind text.now at))) }
 {
     let mut place = at;
-    let mut count: usize = 0;
+    let mut count = 0;
     let mut next = from;
     loop {
         match field_behind(text, place) {
-            Ok(number) => {
+            Ok(Number { value, end }) => {
                 count += 1;
-                place = number.end;
+                place = end;
+                // not by `get_mut`: no proof knows what is written through it
                 if next < list.len() {
-                    list[next] = number.value;
+                    list[next] = value;
                     next += 1;
                 }
             }

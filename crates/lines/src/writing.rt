@@ -1,35 +1,38 @@
 // Numbers and lines written into a lent list of bytes, from a place on. A byte past the list's end goes nowhere, so a text fits
-// any list, and what it writes into a list that is too short still tells how long it is.
+// any list, and what it writes into a list that is too short still tells how long it is. List and place are handed on as they are: as a
+// struct with methods on `&mut self` they were tried, and a line took four tenths longer.
 ghost use Rattle.std.specs.Prelude.{[], ◌∷◌, ◌+◌, ◌^◌, ◌≤◌, ◌<◌, nat_lt};
 ghost use Rattle.std.specs.Bool.{OnTrue};
 ghost use Rattle.rules.specs.Bytes.{tab, decimal, line_text};
 ghost use Rattle.lines.specs.Put.{Put, longest_line};
 
-// A line has fewer numbers.
-const NUMBERS_MOST: usize = 4294967296;
+// A line of so many numbers or more might end past the last place that there is.
+const NUMBERS_MOST: usize = 1 << 32;
 
 // Writes a byte, and gives the place after it.
 fn byte(room: &mut [u8], at: usize, b: u8) -> usize
     requires { at + 1 < 2 ^ 64 }
     ensures { Put room.old at (b ∷ []) room.new result }
 {
+    // not by `get_mut`: no proof knows what is written through it
     if at < room.len() {
         room[at] = b;
     }
     at + 1
 }
 
-// Writes a number: the digits of its quotient by ten, then that of the remainder.
+// Writes a number: the digits of its quotient by ten, then that of the remainder, by recursion as `decimal` says it.
+#[tactic(auto, using(crate::proofs::Putting::number_steps))]
 fn number(room: &mut [u8], at: usize, n: u32) -> usize
     requires { at + 10 < 2 ^ 64 }
     ensures put { Put room.old at (decimal n) room.new result }
     ensures near { result ≤ at + 10 }
 {
     if n < 10 {
-        byte(room, at, 48 + n as u8)
+        byte(room, at, b'0' + n as u8)
     } else {
         let last = number(room, at, n / 10);
-        byte(room, last, 48 + (n % 10) as u8)
+        byte(room, last, b'0' + (n % 10) as u8)
     }
 }
 
@@ -43,8 +46,8 @@ fn field(room: &mut [u8], at: usize, n: u32) -> usize
     number(room, digits, n)
 }
 
-// Writes a line of a letter and numbers. A line that would end past the last place has no end to tell of; nothing is written for one of
-// so many numbers.
+// Writes a line of a letter and numbers. Of one with too many numbers to tell where it ends nothing is written.
+#[tactic(auto, using(crate::proofs::Putting::line_steps))]
 pub fn line<const N: usize>(room: &mut [u8], at: u32, letter: u8, numbers: [u32; N]) -> usize
     ensures put { OnTrue (nat_lt N (2 ^ 32)) (Put room.old at (line_text letter numbers.entry) room.new result) }
     ensures near { result ≤ at + longest_line N }

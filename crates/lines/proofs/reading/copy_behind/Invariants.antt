@@ -3,8 +3,8 @@ use Rattle.std.proofs.Common.{length, ◌-◌}
 use Rattle.lines.proofs.CopyingNumbers.{Copying}
 use Rattle.lines.proofs.reading.copy_behind.Given as goal
 
-abbrev pub invariant-loop-number : goal.invariant-loop-number
-invariant-loop-number l = Copying l.text l.at l.fn.list l.from l.list l.place l.count l.next
+abbrev pub invariant-loop-value : goal.invariant-loop-value
+invariant-loop-value l = Copying l.text l.at l.fn.list l.from l.list l.place l.count l.next
 
-abbrev pub decreases-loop-number : goal.decreases-loop-number
-decreases-loop-number l = length l.text - l.place
+abbrev pub decreases-loop-value : goal.decreases-loop-value
+decreases-loop-value l = length l.text - l.place
