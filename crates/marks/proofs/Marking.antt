@@ -7,17 +7,17 @@ use native.Mathlib.Numerals.{add-one}
 use native.Mathlib.Decide.{dec_lt}
 use native.Mathlib.Omega.{arith}
 use lib.Bits.{bit_or}
-use lib.Count.{count_trailing_zeros}
 use lib.Dec.{eqb, ltb}
-use lib.ListN.{length, get_or, set, take, drop, length-set, length-replicate, replicate-append-replicate, get_or-eq_default}
+use lib.ListN.{length, get_or, set, take, drop, length-set, length-take, length-replicate, replicate-append-replicate, get_or-eq_default}
 use lib.Pow.{shl_exact}
-use lib.Seq.{set_out, set-get_or, take-suc-set, get_or-set_same, get_or-set_other}
+use lib.Seq.{get_or-take, set_out, set-get_or, take-suc-set, get_or-set_same, get_or-set_other}
 use borrow.Author.Tests.{lt-ltb, le-ltb, ltb-true, ltb-false, eqb-true, eqb-false, eq-eqb, ne_eqb}
 use Rattle.counting.specs.Count.{bit, pick, among}
 use Rattle.counting.proofs.Tests.{same_of_iff}
 use Rattle.counting.proofs.Places.{from_place, zero_at}
-use Rattle.marks.specs.Marks.{digit, marked, unmarked, with_mark, with_start, with_starts, numbers_most, FirstUnmarked}
-use Rattle.marks.proofs.Digits.{digit_lt, digit_of_zero, digit_or, digit_of_power, digit_of_greatest, lowest_unset}
+use Rattle.std.specs.Int.{w64, bit_at, trailing_ones}
+use Rattle.std.proofs.lemmas.Nat.Bits.{bit_at-lt, bit_at-zero, bit_at-pow_same, bit_at-pow_other, bit_at_or, bit_at_ones, bit_at-trailing_ones}
+use Rattle.marks.specs.Marks.{marked, unmarked, with_mark, with_start, with_starts, numbers_most, FirstUnmarked}
 
 pub same_test : (a b c d : ℕ) → (a ≡ b → c ≡ d) → (c ≡ d → a ≡ b) → eqb a b ≡ eqb c d
 same_test a b c d f g = same_of_iff _ _ (λ e. eq-eqb c d (f (eqb-true a b e))) (λ e. eq-eqb a b (g (eqb-true c d e)))
@@ -32,7 +32,7 @@ set-again (z ∷ zs) (suc i) x y = ap (λ (rest : List ℕ). z ∷ rest) (set-ag
 
 unmarked_in_zero : (words : List ℕ) (n : ℕ) → get_or words (n / 64) 0 ≡ 0 → marked words n ≡ false
 unfolding marked
-unmarked_in_zero words n e = rw (e, digit_of_zero (n % 64))
+unmarked_in_zero words n e = rw (e, bit_at-zero (n % 64))
 
 pub none_marked : (n s : ℕ) → marked (unmarked n) s ≡ false
 unfolding unmarked
@@ -55,12 +55,20 @@ pub length-with_mark : (words : List ℕ) (n : ℕ) → length (with_mark words 
 unfolding with_mark
 length-with_mark words n = length-set words (n / 64) _
 
-digit_or_bit : (d : ℕ) (b : Bool) → d < 2 → eqb (max d (bit b)) 1 ≡ (eqb d 1 || b)
-digit_or_bit zero true h = refl
-digit_or_bit zero false h = refl
-digit_or_bit (suc zero) true h = refl
-digit_or_bit (suc zero) false h = refl
-digit_or_bit (suc (suc d)) b h = absurd (omega (arith, h))
+-- the bits of a power of two
+bit_at_power : (b i : ℕ) → bit_at (2 ^ b) i ≡ bit (eqb i b)
+bit_at_power b i = go (eqb i b) refl
+  where
+    go : (same : Bool) → eqb i b ≡ same → bit_at (2 ^ b) i ≡ bit same
+    go true e = rw (eqb-true i b e) (bit_at-pow_same b)
+    go false e = bit_at-pow_other b i (eqb-false i b e)
+
+either_bit : (d : ℕ) (b : Bool) → d < 2 → eqb (max d (bit b)) 1 ≡ (eqb d 1 || b)
+either_bit zero true h = refl
+either_bit zero false h = refl
+either_bit (suc zero) true h = refl
+either_bit (suc zero) false h = refl
+either_bit (suc (suc d)) b h = absurd (omega (arith, h))
 
 pub marked-with_mark : (words : List ℕ) (n s : ℕ) → s < 64 * length words → marked (with_mark words n) s ≡ (marked words s || eqb n s)
 unfolding marked with_mark
@@ -73,12 +81,12 @@ marked-with_mark words n s h = go (eqb (s / 64) (n / 64)) refl
     same_bit q = same_test (s % 64) (n % 64) n s (λ e. omega arith) (λ e. omega arith)
 
     go : (b : Bool) → eqb (s / 64) (n / 64) ≡ b
-        → eqb (digit (get_or (set words (n / 64) word) (s / 64) 0) (s % 64)) 1 ≡ (eqb (digit (get_or words (s / 64) 0) (s % 64)) 1 || eqb n s)
+        → eqb (bit_at (get_or (set words (n / 64) word) (s / 64) 0) (s % 64)) 1 ≡ (eqb (bit_at (get_or words (s / 64) 0) (s % 64)) 1 || eqb n s)
     go true e =
         let q : s / 64 ≡ n / 64 = eqb-true _ _ e in
         let old = get_or words (n / 64) 0 in
-        rw (q, get_or-set_same words (n / 64) word 0 (omega arith), digit_or old (2 ^ (n % 64)) (s % 64), digit_of_power (n % 64) (s % 64), same_bit q)
-        (digit_or_bit (digit old (s % 64)) (eqb n s) (digit_lt old (s % 64)))
+        rw (q, get_or-set_same words (n / 64) word 0 (omega arith), bit_at_or old (2 ^ (n % 64)) (s % 64), bit_at_power (n % 64) (s % 64), same_bit q)
+        (either_bit (bit_at old (s % 64)) (eqb n s) (bit_at-lt old (s % 64)))
     go false e =
         let q : s / 64 ≡ n / 64 → ⊥ = eqb-false _ _ e in
         rw (get_or-set_other words (n / 64) (s / 64) word 0 q, ne_eqb n s (λ p. q (ap (λ (x : ℕ). x / 64) (sym p))), or-false)
@@ -119,7 +127,7 @@ module _ (words : List ℕ) (at bits : ℕ) where
     back_at_place : n < 64 * length words → get_or (set words at bits) (n / 64) 0 ≡ bits
     back_at_place within = rw (← its) (get_or-set_same words at bits 0 (omega arith))
 
-    pub marked_in_hand : n < 64 * length words → marked (set words at bits) n ≡ eqb (digit bits (n % 64)) 1
+    pub marked_in_hand : n < 64 * length words → marked (set words at bits) n ≡ eqb (bit_at bits (n % 64)) 1
     unfolding marked
     marked_in_hand within = rw (back_at_place within)
 
@@ -197,15 +205,19 @@ one-more-start offset steps words marked_words i step l is_step is_marked = rw (
 abbrev pub AllMarked : List ℕ → ℕ → Type 0
 AllMarked words n = (t : ℕ) → t < n → marked words t ≡ true
 
-marked_in_word : (words : List ℕ) (at i : ℕ) → i < 64 → marked words (64 * at + i) ≡ eqb (digit (get_or words at 0) i) 1
+marked_in_word : (words : List ℕ) (at i : ℕ) → i < 64 → marked words (64 * at + i) ≡ eqb (bit_at (get_or words at 0) i) 1
 unfolding marked
 marked_in_word words at i l =
     let word : (64 * at + i) / 64 ≡ at = omega arith in
     let place : (64 * at + i) % 64 ≡ i = omega arith in
     rw (word, place)
 
+-- one that is looked at, among the first few, is the one of all words there
+pub looked_at : (words : List ℕ) (few at : ℕ) → at < length (take few words) → get_or (take few words) at 0 ≡ get_or words at 0
+looked_at words few at l = get_or-take few words at 0 (omega (arith, length-take few words))
+
 module _ (words : List ℕ) (at : ℕ) (all : AllMarked words (64 * at)) where
-  all_marked_to : (n : ℕ) → n ≤ 64 → ((i : ℕ) → i < n → digit (get_or words at 0) i ≡ 1) → AllMarked words (64 * at + n)
+  all_marked_to : (n : ℕ) → n ≤ 64 → ((i : ℕ) → i < n → bit_at (get_or words at 0) i ≡ 1) → AllMarked words (64 * at + n)
   all_marked_to n m h t l = go (ltb t (64 * at)) refl
     where
       go : (b : Bool) → ltb t (64 * at) ≡ b → marked words t ≡ true
@@ -217,17 +229,16 @@ module _ (words : List ℕ) (at : ℕ) (all : AllMarked words (64 * at)) where
 
   -- it is not in a full word
   pub full_word : get_or words at 0 ≡ 2 ^ 64 - 1 → AllMarked words (64 * (at + 1))
-  full_word full t l = all_marked_to 64 (omega arith) (λ i m. rw full (digit_of_greatest 64 i m)) t (omega arith)
+  full_word full t l = all_marked_to 64 (omega arith) (λ i m. rw full (bit_at_ones 64 i m)) t (omega arith)
 
-  -- in one that is not full it is where the lowest digit is that is not set
-  pub first_in_word : 64 * at < numbers_most → get_or words at 0 < 2 ^ 64 - 1
-      → FirstUnmarked words (64 * at + count_trailing_zeros 64 (2 ^ 64 - 1 - get_or words at 0))
+  -- in one that is not full it is at the lowest bit that is not set
+  pub first_in_word : 64 * at < numbers_most → get_or words at 0 + 1 < 2 ^ 64 → FirstUnmarked words (64 * at + trailing_ones w64 (get_or words at 0))
   first_in_word few short =
-      let lowest = lowest_unset 64 (get_or words at 0) short in
+      let (within, unset, below) = bit_at-trailing_ones w64 (get_or words at 0) short in
       record {
-        below = omega (arith, lowest.within);
-        free = λ l. marked_in_word words at _ lowest.within ∙ rw lowest.unset;
-        least = all_marked_to _ (omega (arith, lowest.within)) lowest.below;
+        below = omega (arith, within);
+        free = λ l. marked_in_word words at _ within ∙ rw unset;
+        least = all_marked_to _ (omega (arith, within)) below;
       }
 
   -- and where no word is left it is the next number, or the bound

@@ -1,16 +1,13 @@
 -- Document 02, request 2: starts that are ruled out are marked, one bit a step. Here a number is marked by a bit in words of 64
 -- bits; the lowest bit of the first word is number 0. Nodes that a path visits, and steps in which a link is entered, are marked likewise.
 use Rattle.std.specs.Prelude.{◌≡◌, Bool, true, false, List, [], ◌∷◌, ℕ, ◌-◌, ◌/◌, ◌%◌, ◌^◌, ◌≤◌, ◌<◌, eqb, ltb, get_or, set, replicate}
+use Rattle.std.specs.Int.{bit_at}
 use Rattle.std.specs.Int.Bits.{bit_or}
 use Rattle.counting.specs.Count.{pick}
 
--- the binary digit i of a word, the lowest being digit 0
-unfoldable pub digit : ℕ → ℕ → ℕ
-digit word i = word / 2 ^ i % 2
-
 -- whether the number is marked: none beyond the words is
 unfoldable pub marked : List ℕ → ℕ → Bool
-marked words n = eqb (digit (get_or words (n / 64) 0) (n % 64)) 1
+marked words n = eqb (bit_at (get_or words (n / 64) 0) (n % 64)) 1
 
 -- so many words without a mark
 unfoldable pub unmarked : ℕ → List ℕ

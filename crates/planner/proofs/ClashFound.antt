@@ -20,6 +20,7 @@ use Rattle.rules.specs.Claims.{link_claims, Placed, place}
 use Rattle.rules.specs.Check.{holder, clash_with, clash_after}
 use Rattle.theorems.proofs.Accepted.{length-paths_from}
 use Rattle.theorems.proofs.Clashes.{found-holder}
+use Rattle.std.specs.Prelude.{Some, None}
 use Rattle.planner.specs.PacketsInLists.{SimplePaths, OnPath, path_claims, begin_from, path_at, packets, before}
 use Rattle.planner.specs.Again.{steps_at, again, FirstAgain}
 use Rattle.planner.specs.EntriesAdded.{claim_steps, all_steps}
@@ -115,10 +116,11 @@ module _ (stops hops starts : List ℕ) (simple : SimplePaths stops hops) (same 
 
   -- ---- the first that does
 
-  module _ (r : ℕ) (first : FirstAgain hops (all_steps ps) r) where
+  -- where no hop before hop r does
+  module _ (r : ℕ) (none_before : (i : ℕ) → i < r → again hops (all_steps ps) i ≡ false) where
     -- the hops before it are not taken
     free_before : (k hop : ℕ) → k < length stops → hop < length (path k) → begin_from 0 stops k + hop < r → taken_hop (before stops hops starts k) (start k) (path k) hop ≡ false
-    free_before k hop l m e = sym (again-taken k hop _ l m refl) ∙ first.earlier _ e
+    free_before k hop l m e = sym (again-taken k hop _ l m refl) ∙ none_before _ e
 
     -- so a packet that stops before it is clear, and the clash is sought after it
     sought_from : (k : ℕ) → k ≤ length stops → begin_from 0 stops k ≤ r → clash_after [] ps ≡ clashes_from ps k
@@ -128,10 +130,15 @@ module _ (stops hops starts : List ℕ) (simple : SimplePaths stops hops) (same 
         let clear : clash_at stops hops starts same k ≡ none = clash_nowhere k (before stops hops starts k) (start k) (path k) (λ hop m. free_before k hop l m (omega (arith, path_end stops hops simple k l))) in
         sought_from k (omega arith) (omega (arith, p.rises)) ∙ first_turn stops hops starts same k l ∙ rw clear
 
-    pub nothing-found : r ≡ length hops → none ≡ clash_after [] ps
-    nothing-found e = sym (sought_from (length stops) (omega arith) (omega (arith, begin_end stops hops simple)) ∙ first_nowhere stops hops starts same (length stops) (omega arith))
+    none_sought : r ≡ length hops → none ≡ clash_after [] ps
+    none_sought e = sym (sought_from (length stops) (omega arith) (omega (arith, begin_end stops hops simple)) ∙ first_nowhere stops hops starts same (length stops) (omega arith))
 
-    -- and the packet that has it shows the clash
+  -- where none does all is clear
+  pub nothing-found : FirstAgain hops (all_steps ps) None → none ≡ clash_after [] ps
+  nothing-found first = none_sought (length hops) first refl
+
+  -- and the packet that has the first shows the clash
+  module _ (r : ℕ) (first : FirstAgain hops (all_steps ps) (Some r)) where
     pub clash_found : (k from step : ℕ) → OnPath stops r k → from ≡ begin_from 0 stops k → step ≡ start k + (r - from)
         → clash_with k (get_or hops r 0) step (holder 0 (before stops hops starts k) (get_or hops r 0) step) ≡ clash_after [] ps
     clash_found k from step on is_from is_step =
@@ -143,9 +150,9 @@ module _ (stops hops starts : List ℕ) (simple : SimplePaths stops hops) (same 
         let m : hop < length (path k) = omega (arith, on.begun, on.ahead, path_end stops hops simple k l) in
         let is_link : get_or hops r 0 ≡ get_or (path k) hop 0 = ap (λ (xs : List ℕ). get_or xs r 0) (hops_around k l)
         ∙ (middle (all_links (take k ps)) (path k) (drop (get_or stops k 0) hops) hop r (omega (arith, begin_links k l)) m).at in
-        let is_taken = sym (again-taken k hop r l m there) ∙ first.here (omega (arith, on.ahead, p.within)) in
-        let clash = clash_first k bs (start k) (path k) hop m (λ h q. free_before k h l (omega (arith, m)) (omega arith)) is_taken in
+        let is_taken = sym (again-taken k hop r l m there) ∙ first.here in
+        let clash = clash_first k bs (start k) (path k) hop m (λ h q. free_before r first.earlier k h l (omega (arith, m)) (omega arith)) is_taken in
         let is_hop : step ≡ start k + hop = omega (arith, is_step, is_from) in
         ap₂ (λ (link step : ℕ). clash_with k link step (holder 0 bs link step)) is_link is_hop
-        ∙ sym (sought_from k (omega arith) on.begun ∙ first_turn stops hops starts same k l
+        ∙ sym (sought_from r first.earlier k (omega arith) on.begun ∙ first_turn stops hops starts same k l
         ∙ rw clash (held_first k (get_or (path k) hop 0) (start k + hop) (holder 0 bs (get_or (path k) hop 0) (start k + hop)) _ (found-holder 0 bs _ _ ∙ is_taken)))

@@ -144,9 +144,6 @@ module _ {links all nexts₀ steps₀ nexts steps : List ℕ} where
 pub record EnteredToHop (path nexts₀ steps₀ nexts steps : List ℕ) (start hop offset : ℕ) : Type 0 where
   pub so_far : EnteredSoFar path (claim_steps (place start (path_claims path))) nexts₀ steps₀ (drop hop path) (claim_steps (place start (link_claims one_step offset (drop hop path)))) nexts steps
 
-pub path-start : {path nexts steps : List ℕ} {start : ℕ} → EnteredToHop path nexts steps nexts steps start 0 0
-path-start = record { so_far = entered-start }
-
 module _ {path nexts₀ steps₀ nexts steps : List ℕ} {start hop offset : ℕ} (w : EnteredToHop path nexts₀ steps₀ nexts steps start hop offset) where
   module _ (more : hop < length path) where
     abbrev l : ℕ

@@ -29,7 +29,7 @@ use Rattle.planner.specs.EntriesAdded.{claim_steps, all_steps, EntriesAdded}
 use Rattle.planner.proofs.PathParts.{part}
 use Rattle.planner.proofs.Searching.{hops_before}
 use Rattle.planner.proofs.StepsInOrder.{all_links, all_links-append, all_as_many, links_of_path, path_as_many}
-use Rattle.planner.proofs.EnteringLinks.{EnteredSoFar, entered-start, entered_turn, entered_done, nexts_done}
+use Rattle.planner.proofs.EnteringLinks.{EnteredSoFar, entered_turn, entered_done, nexts_done}
 use Rattle.planner.proofs.EntriesKept.{hops_from_begin, hops_below}
 use Rattle.planner.proofs.Clashing.{drop-cons_at, take-suc_at, placed-le, packet_at}
 
@@ -87,9 +87,6 @@ module _ (stops hops starts : List ℕ) (simple : SimplePaths stops hops) (same 
 pub record EnteredToPacket (stops hops starts nexts₀ steps₀ nexts steps : List ℕ) (k : ℕ) : Type 0 where
   pub so_far : EnteredSoFar hops (all_steps (packets stops hops starts)) nexts₀ steps₀
       (drop (begin_from 0 stops k) hops) (all_steps (drop k (packets stops hops starts))) nexts steps
-
-pub each_start : {stops hops starts nexts steps : List ℕ} → EnteredToPacket stops hops starts nexts steps nexts steps 0
-each_start = record { so_far = entered-start }
 
 module _ {stops hops starts nexts₀ steps₀ nexts steps : List ℕ} {k : ℕ} (simple : SimplePaths stops hops) (same : length starts ≡ length stops)
     (w : EnteredToPacket stops hops starts nexts₀ steps₀ nexts steps k) where

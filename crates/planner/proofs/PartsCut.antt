@@ -1,77 +1,40 @@
 -- Links' parts that are cut at their first repeat, one after the other, and the walk along the hops up to a cut. Steps each of which is later
 -- than the one before it repeat none.
 use mathlib.Core.Path.{◌≡◌, refl, sym, ◌∙◌}
-use mathlib.Core.Bool.{Bool, true, false, not, ◌&&◌}
+use mathlib.Core.Bool.{Bool, true, false}
 use mathlib.Core.List.{List, [], ◌∷◌}
 use mathlib.Core.Logic.{⊎_elim}
 use Prim.Native.Nat.{ℕ, zero, suc, ◌+◌, ◌-◌, ◌≤◌, ◌<◌}
 use native.Mathlib.Decide.{dec_lt}
-use native.Mathlib.Nat.{eq-or-lt_of_le, not-suc-le-zero, le_of_suc-le-suc}
+use native.Mathlib.Nat.{eq-or-lt_of_le}
 use native.Mathlib.Numerals.{add-one}
 use native.Mathlib.Omega.{arith}
-use lib.Dec.{eqb, ltb}
+use lib.Dec.{eqb}
 use lib.ListN.{length, get_or, take, drop, set, length-set, length-take, length-drop}
 use lib.Seq.{take-suc, get_or-take, get_or-drop, set-get_or, get_or-set_same, get_or-set_other}
 use borrow.Author.Count.{below_none}
-use borrow.Author.Tests.{eqb-true, ne_eqb, ltb-true, lt-ltb, le-ltb, not-false}
+use borrow.Author.Tests.{eqb-true, ne_eqb}
 use Rattle.counting.specs.Count.{bit, among, occurs}
-use Rattle.counting.proofs.Tests.{and_left, and_right}
 use Rattle.counting.proofs.Sums.{sum_append}
-use Rattle.counting.proofs.Places.{from_place, one-more_at}
-use Rattle.planner.specs.Entries.{steps_on}
-use Rattle.planner.specs.Cuts.{FirstRepeat, each_later, Markable, Cuttable, Cut, SameParts, place_of, FirstBeyond}
+use Rattle.counting.proofs.Places.{one-more_at}
+use Rattle.planner.specs.Entries.{steps_on, Parts}
+use Rattle.std.specs.Prelude.{Some, None}
+use Rattle.std.specs.List.Sorted.{IsStrictlyIncreasing}
+use Rattle.std.proofs.lemmas.List.Kept.{AllPairs-from_increasing}
+use Rattle.planner.specs.Cuts.{FirstRepeat, CutAt, Markable, Cuttable, Cut, place_of, FirstBeyond}
 
 -- ---- steps each of which is later than the one before it
 
--- two of them, and those after the first
-later_both : (step next : ℕ) (steps : List ℕ) → each_later (step ∷ next ∷ steps) ≡ true → (step < next) × (each_later (next ∷ steps) ≡ true)
-unfolding each_later
-later_both step next steps h = (ltb-true step next (and_left (ltb step next) _ h), and_right (ltb step next) _ h)
+-- the first so many are smaller than a step that none of them is as late as
+none_as_late : (steps : List ℕ) (i step : ℕ) → ((j : ℕ) → j < i → get_or steps j 0 < step) → i ≤ length steps → among step (take i steps) ≡ false
+none_as_late steps zero step h l = refl
+none_as_late [] (suc i) step h l = refl
+none_as_late (first ∷ steps) (suc i) step h l =
+    rw (ne_eqb first step (omega (arith, h 0))) (none_as_late steps i step (λ j m. h (suc j) (omega arith)) (omega arith))
 
-few_later : (steps : List ℕ) → length steps < 2 → each_later steps ≡ true
-unfolding each_later
-few_later [] few = refl
-few_later (step ∷ []) few = refl
-few_later (step ∷ next ∷ steps) few = absurd (omega arith)
-
--- whether they are, from the one before a place on
-module _ (steps : List ℕ) (at : ℕ) (after : 0 < at) where
-  module _ (more : at < length steps) where
-    later_turn : each_later (drop (at - 1) steps) ≡ (ltb (get_or steps (at - 1) 0) (get_or steps at 0) && each_later (drop at steps))
-    unfolding each_later
-    later_turn = let here : at - 1 + 1 ≡ at = omega arith in rw (from_place steps (at - 1) (omega arith), here, from_place steps at)
-
-    pub later_fails : get_or steps at 0 ≤ get_or steps (at - 1) 0 → each_later (drop (at - 1) steps) ≡ false
-    later_fails l = rw (later_turn, le-ltb (get_or steps (at - 1) 0) (get_or steps at 0))
-
-    pub later_on : get_or steps (at - 1) 0 < get_or steps at 0 → each_later (drop (at - 1) steps) ≡ each_later (drop (at + 1 - 1) steps)
-    later_on l = let next : at + 1 - 1 ≡ at = omega arith in rw (later_turn, lt-ltb (get_or steps (at - 1) 0) (get_or steps at 0), next)
-
-  pub later_done : length steps ≤ at → each_later (drop (at - 1) steps) ≡ true
-  later_done end = few_later (drop (at - 1) steps) (omega (arith, length-drop (at - 1) steps))
-
--- the first is before all others
-after_first : (first : ℕ) (steps : List ℕ) → each_later (first ∷ steps) ≡ true → (i : ℕ) → i < length steps → first < get_or steps i 0
-after_first first [] h i l = absurd (not-suc-le-zero l)
-after_first first (next ∷ steps) h zero l = (later_both first next steps h).0
-after_first first (next ∷ steps) h (suc i) l =
-    let (before, rest) = later_both first next steps h in
-    omega (arith, before, after_first next steps rest i (le_of_suc-le-suc l))
-
-later_rest : (first : ℕ) (steps : List ℕ) → each_later (first ∷ steps) ≡ true → each_later steps ≡ true
-later_rest first [] h = few_later [] (omega arith)
-later_rest first (next ∷ steps) h = (later_both first next steps h).1
-
-later_new : (steps : List ℕ) → each_later steps ≡ true → (i : ℕ) → i < length steps → among (get_or steps i 0) (take i steps) ≡ false
-later_new [] h i l = absurd (not-suc-le-zero l)
-later_new (first ∷ steps) h zero l = refl
-later_new (first ∷ steps) h (suc i) l =
-    let more = le_of_suc-le-suc l in
-    rw (ne_eqb first (get_or steps i 0) (omega (arith, after_first first steps h i more))) (later_new steps (later_rest first steps h) i more)
-
--- so none repeats one before it
-later_never_repeats : (steps : List ℕ) → each_later steps ≡ true → FirstRepeat steps (length steps)
-later_never_repeats steps h = record { within = omega arith; here = λ l. absurd (omega arith); earlier = later_new steps h }
+-- none repeats one before it
+pub later_new : (steps : List ℕ) → IsStrictlyIncreasing steps → FirstRepeat steps None
+later_new steps later i l = none_as_late steps i (get_or steps i 0) (λ j m. AllPairs-from_increasing steps later j i 0 m l) (omega arith)
 
 -- ---- one part
 
@@ -79,7 +42,7 @@ module _ (steps : List ℕ) (from to : ℕ) (rises : from ≤ to) (within : to �
   abbrev part : List ℕ
   part = take (to - from) (drop from steps)
 
-  part_length : length part ≡ to - from
+  pub part_length : length part ≡ to - from
   part_length = omega (arith, length-take (to - from) (drop from steps), length-drop from steps)
 
   -- what may be marked of all steps may be of its own
@@ -89,21 +52,14 @@ module _ (steps : List ℕ) (from to : ℕ) (rises : from ≤ to) (within : to �
     can.1,
   )
 
-  -- it is cut where it repeats
-  pub cut_at_repeat : (r : ℕ) → FirstRepeat part r → (from ≤ from + r) × FirstRepeat part (from + r - from)
-  cut_at_repeat r first = let there : from + r - from ≡ r = omega arith in (omega arith, rw there first)
-
-  pub cut_within : (r : ℕ) → FirstRepeat part r → from + r ≤ to
-  cut_within r first = omega (arith, first.within, part_length)
-
-  -- and not at all where each of its entries is later than the one before it
-  pub cut_nowhere : each_later part ≡ true → FirstRepeat part (to - from)
-  cut_nowhere h = rw part_length at (later_never_repeats part h)
+  -- where none of its entries repeats another it is cut at its end
+  pub cut_nowhere : FirstRepeat part None → CutAt part (to - from)
+  cut_nowhere none = let whole : CutAt part (length part) = record { within = omega arith; here = λ l. absurd (omega arith); earlier = none } in rw part_length at whole
 
 -- ---- all parts, before that of the link is cut
 
 abbrev CutOf : (firsts nexts steps cuts : List ℕ) → ℕ → Type 0
-CutOf firsts nexts steps cuts i = (get_or firsts i 0 ≤ get_or cuts i 0) × FirstRepeat (steps_on firsts nexts steps i) (get_or cuts i 0 - get_or firsts i 0)
+CutOf firsts nexts steps cuts i = (get_or firsts i 0 ≤ get_or cuts i 0) × CutAt (steps_on firsts nexts steps i) (get_or cuts i 0 - get_or firsts i 0)
 
 -- those of the links before it are cut, and the others are as they were
 pub record CutTo (firsts before steps nexts : List ℕ) (link : ℕ) : Type 0 where
@@ -115,21 +71,40 @@ pub cut_to_start : {firsts nexts steps : List ℕ} → CutTo firsts nexts steps 
 cut_to_start = record { long = refl; cut = below_none _; ahead = λ i l. refl }
 
 module _ {firsts before steps nexts : List ℕ} {link : ℕ} (w : CutTo firsts before steps nexts link) where
-  module _ {from to : ℕ} (more : link < length nexts) (is_first : from ≡ get_or firsts link 0) (is_next : to ≡ get_or nexts link 0) where
-    pub cut_to_turn : (r : ℕ) → (from ≤ r) × FirstRepeat (take (to - from) (drop from steps)) (r - from) → CutTo firsts before steps (set nexts link r) (link + 1)
+  module _ (more : link < length nexts) where
+    abbrev from : ℕ
+    from = get_or firsts link 0
+
+    abbrev to : ℕ
+    to = get_or nexts link 0
+
+    abbrev own : List ℕ
+    own = take (to - from) (drop from steps)
+
+    cut_to_place : (r : ℕ) → (from ≤ r) × CutAt own (r - from) → CutTo firsts before steps (set nexts link r) (link + 1)
     unfolding steps_on
-    cut_to_turn r cut_here = record {
+    cut_to_place r cut_here = record {
       long = length-set nexts link r ∙ w.long;
       cut = λ i l. ⊎_elim
-          (λ q. rw (q, get_or-set_same nexts link r 0 more, ← w.ahead link (omega arith), ← is_first, ← is_next) cut_here)
+          (λ q. rw (q, get_or-set_same nexts link r 0 more, ← w.ahead link (omega arith)) cut_here)
           (λ m. rw (get_or-set_other nexts link i r 0 (omega arith)) (w.cut i m))
           (eq-or-lt_of_le {n = i} {m = link} (omega arith));
       ahead = λ i l. get_or-set_other nexts link i r 0 (omega arith) ∙ w.ahead i (omega arith);
     }
 
-  -- parts that end where they did still do once this one is cut at its end
-  pub still_whole : (r : ℕ) → SameParts before nexts → not (eqb r (get_or nexts link 0)) ≡ false → SameParts before (set nexts link r)
-  still_whole r same e = rw (eqb-true r (get_or nexts link 0) (not-false _ e), set-get_or) same
+    -- its part is cut at the first entry that repeats one before it
+    pub cut_to_repeat : (r : ℕ) → FirstRepeat own (Some r) → CutTo firsts before steps (set nexts link (from + r)) (link + 1)
+    cut_to_repeat r first =
+        let there : from + r - from ≡ r = omega arith in
+        let here : CutAt own r = record { within = omega (arith, first.within); here = λ l. first.here; earlier = first.earlier } in
+        cut_to_place (from + r) (omega arith, rw there here)
+
+    -- or where it ended
+    pub cut_to_end : Parts firsts before (length steps) → FirstRepeat own None → CutTo firsts before steps nexts (link + 1)
+    cut_to_end parts none =
+        let same = w.ahead link (omega arith) in
+        let rises : from ≤ to = omega (arith, parts.rises link, same) in
+        rw set-get_or at (cut_to_place to (rises, cut_nowhere steps from to rises (omega (arith, parts.within link, same)) none))
 
   module _ {links : ℕ} {words : List ℕ} (can : Cuttable links firsts before steps words) (all : links ≤ link) where
     -- a number past the links has no part to cut
@@ -139,9 +114,9 @@ module _ {firsts before steps nexts : List ℕ} {link : ℕ} (w : CutTo firsts b
         let parts = can.parts in
         let from = get_or firsts i 0 in
         let to = get_or before i 0 in
-        let none : length (take (to - from) (drop from steps)) < 2 = omega (arith, can.others i (omega arith), length-take (to - from) (drop from steps)) in (
+        let none : length (take (to - from) (drop from steps)) ≡ 0 = omega (arith, can.others i (omega arith), length-take (to - from) (drop from steps)) in (
           omega (arith, parts.rises i, w.ahead i ahead),
-          rw (w.ahead i ahead) (cut_nowhere steps from to (parts.rises i) (parts.within i) (few_later _ none)),
+          rw (w.ahead i ahead) (cut_nowhere steps from to (parts.rises i) (parts.within i) (λ j l. absurd (omega (arith, none)))),
         )
 
     each_cut : (i : ℕ) → CutOf firsts before steps nexts i
@@ -163,16 +138,16 @@ pub walked_start : {hops firsts cuts : List ℕ} → ((link : ℕ) → get_or fi
 walked_start rises = record { near = omega arith; long = refl; moved = λ link. omega arith; short = rises; earlier = below_none _ }
 
 module _ {hops before cuts places : List ℕ} {i : ℕ} (w : WalkedTo hops before cuts places i) where
-  pub walked_done : i ≡ length hops → FirstBeyond hops before cuts i
-  walked_done e = record { within = w.near; here = λ l. absurd (omega arith); earlier = w.earlier }
+  pub walked_done : length hops ≤ i → FirstBeyond hops before cuts None
+  walked_done all j l = w.earlier j (omega arith)
 
   module _ {link : ℕ} (more : i < length hops) (is_link : link ≡ get_or hops i 0) where
     its_place : place_of hops before i ≡ get_or places link 0
     unfolding place_of
     its_place = rw (← is_link) (sym (w.moved link))
 
-    pub walked_to_cut : get_or places link 0 ≡ get_or cuts link 0 → FirstBeyond hops before cuts i
-    walked_to_cut e = record { within = w.near; here = λ l. rw (← is_link) (its_place ∙ e); earlier = w.earlier }
+    pub walked_to_cut : get_or places link 0 ≡ get_or cuts link 0 → FirstBeyond hops before cuts (Some i)
+    walked_to_cut e = record { within = more; here = rw (← is_link) (its_place ∙ e); earlier = w.earlier }
 
     module _ (on : link < length places) (room : get_or places link 0 < get_or cuts link 0) where
       one_more : (other : ℕ) → occurs other (take (i + 1) hops) ≡ occurs other (take i hops) + bit (eqb link other)

@@ -16,9 +16,11 @@ use borrow.Author.Tests.{eqb-true, eqb-false}
 use Rattle.counting.specs.Count.{any_of, among}
 use Rattle.counting.proofs.Tests.{any_append, or_false_left, or_false_right}
 use Rattle.counting.proofs.Places.{from_place, zero_at}
-use Rattle.marks.specs.Marks.{digit, marked, unmarked, with_mark, wiped}
+use Rattle.std.specs.Int.{bit_at}
+use Rattle.std.specs.Prelude.{Some, None}
+use Rattle.marks.specs.Marks.{marked, unmarked, with_mark, wiped}
 use Rattle.marks.proofs.Marking.{none_marked, length-unmarked, length-with_mark, marked-with_mark, marked_in_hand, mark_in_hand}
-use Rattle.planner.specs.Cuts.{FirstRepeat, MarksWithin, Markable}
+use Rattle.planner.specs.Cuts.{repeats, FirstRepeat, MarksWithin, Markable}
 
 -- ---- marking, before step i is looked at
 
@@ -28,7 +30,7 @@ pub record MarkedTo (steps before words : List ℕ) (i : ℕ) : Type 0 where
   pub long : length words ≡ length before
   pub marks : (s : ℕ) → s < 64 * length words → marked words s ≡ among s (take i steps)
   pub within : MarksWithin (take i steps) words
-  pub new : (j : ℕ) → j < i → among (get_or steps j 0) (take j steps) ≡ false
+  pub new : (j : ℕ) → j < i → repeats steps j ≡ false
 
 zero_word : (n at : ℕ) → get_or (unmarked n) at 0 ≡ 0
 unfolding unmarked
@@ -50,8 +52,8 @@ other_word words n at e = get_or-set_other words (n / 64) at _ 0 (λ q. eqb-fals
 
 module _ {steps before words : List ℕ} {i : ℕ} (w : MarkedTo steps before words i) where
   -- at the end none repeats
-  pub marked_to_done : i ≡ length steps → FirstRepeat steps i
-  marked_to_done e = record { within = w.near; here = λ l. absurd (omega arith); earlier = w.new }
+  pub marked_to_done : length steps ≤ i → FirstRepeat steps None
+  marked_to_done all j l = w.new j (omega arith)
 
   module _ (can : Markable steps before) (more : i < length steps) {step : ℕ} (is_step : step ≡ get_or steps i 0) where
     has_bit : step < 64 * length words
@@ -61,8 +63,8 @@ module _ {steps before words : List ℕ} {i : ℕ} (w : MarkedTo steps before wo
     stands = w.marks step has_bit ∙ ap (λ (s : ℕ). among s (take i steps)) is_step
 
     -- one that is marked is the first to repeat
-    marked_to_repeat : marked words step ≡ true → FirstRepeat steps i
-    marked_to_repeat e = record { within = w.near; here = λ l. sym stands ∙ e; earlier = w.new }
+    marked_to_repeat : marked words step ≡ true → FirstRepeat steps (Some i)
+    marked_to_repeat e = record { within = more; here = sym stands ∙ e; earlier = w.new }
 
     one_more : take (i + 1) steps ≡ take i steps ++ (step ∷ [])
     one_more = rw (add-one i, is_step) (take-suc steps i 0 more)
@@ -91,13 +93,13 @@ held_start {words = words} at bits can is_at is_bits = rw (is_at, is_bits, set-g
 
 module _ {steps before : List ℕ} (words : List ℕ) (at bits : ℕ) {i : ℕ} (w : MarkedTo steps before (set words at bits) i) (can : Markable steps before)
     (more : i < length steps) {step : ℕ} (is_step : step ≡ get_or steps i 0) (its : at ≡ step / 64) where
-  in_hand : marked (set words at bits) step ≡ eqb (digit bits (step % 64)) 1
+  in_hand : marked (set words at bits) step ≡ eqb (bit_at bits (step % 64)) 1
   in_hand = marked_in_hand words at bits step its (omega (arith, has_bit w can more is_step, length-set words at bits))
 
-  pub held_to_repeat : eqb (digit bits (step % 64)) 1 ≡ true → FirstRepeat steps i
+  pub held_to_repeat : eqb (bit_at bits (step % 64)) 1 ≡ true → FirstRepeat steps (Some i)
   held_to_repeat e = marked_to_repeat w can more is_step (in_hand ∙ e)
 
-  pub held_to_turn : eqb (digit bits (step % 64)) 1 ≡ false → MarkedTo steps before (set words at (bit_or bits (2 ^ (step % 64)))) (i + 1)
+  pub held_to_turn : eqb (bit_at bits (step % 64)) 1 ≡ false → MarkedTo steps before (set words at (bit_or bits (2 ^ (step % 64)))) (i + 1)
   held_to_turn e = rw (mark_in_hand words at bits step its) (marked_to_turn w can more is_step (in_hand ∙ e))
 
 -- ---- wiping, before step i is: no word has a mark but those of the steps that are left

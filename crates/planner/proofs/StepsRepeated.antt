@@ -9,6 +9,7 @@ use lib.Dec.{eqb}
 use lib.ListN.{length, get_or, take, drop, length-take}
 use borrow.Author.Tests.{eq-eqb}
 use Rattle.counting.specs.Count.{bit, among, occurs}
+use Rattle.std.specs.Prelude.{Option, Some, None}
 use Rattle.planner.specs.Entries.{steps_on}
 use Rattle.planner.specs.Again.{steps_at, again, FirstAgain, InOrder}
 use Rattle.planner.specs.Cuts.{Cut, SameParts, place_of, FirstBeyond}
@@ -85,10 +86,11 @@ module _ {hops all firsts nexts steps : List ℕ} (order : InOrder hops all firs
       before_cut h = again_repeats ∙ (cut.first l).earlier (occurs l (take i hops)) (omega arith)
 
   -- so the first hop at its link's cut is the first that does
-  pub first_beyond_again : {cuts : List ℕ} {r : ℕ} → Cut firsts nexts steps cuts → FirstBeyond hops firsts cuts r → FirstAgain hops all r
-  first_beyond_again {cuts} {r} cut beyond = record {
+  pub first_beyond_again : {cuts : List ℕ} (r : Option ℕ) → Cut firsts nexts steps cuts → FirstBeyond hops firsts cuts r → FirstAgain hops all r
+  first_beyond_again {cuts} None cut beyond = λ i more. before_cut i more cuts cut (beyond i more)
+  first_beyond_again {cuts} (Some r) cut beyond = record {
     within = beyond.within;
-    here = λ l. at_cut r l cuts cut (beyond.here l);
+    here = at_cut r beyond.within cuts cut beyond.here;
     earlier = λ i l. before_cut i (omega (arith, beyond.within)) cuts cut (beyond.earlier i l);
   }
 
@@ -100,5 +102,5 @@ module _ {hops all firsts nexts steps : List ℕ} (order : InOrder hops all firs
         let link = get_or hops i 0 in
         omega (arith, same.ends link, place_within i l, length-take (get_or nexts link 0 - get_or firsts link 0) (drop (get_or firsts link 0) steps))
 
-    pub never_again : FirstAgain hops all (length hops)
-    never_again = record { within = omega arith; here = λ l. absurd (omega arith); earlier = λ i l. before_cut i l cuts cut (short_of_cut i l) }
+    pub never_again : FirstAgain hops all None
+    never_again i l = before_cut i l cuts cut (short_of_cut i l)

@@ -9,7 +9,6 @@ ghost use Rattle.planner.specs.PacketsInLists.{path_claims};
 ghost use Rattle.planner.specs.Entries.{widest, Below, Searchable, MarksAdded, FoundAmong, total, Rooms, Enterable};
 ghost use Rattle.planner.specs.EntriesAdded.{claim_steps, EntriesAdded};
 
-use crate::wide;
 use job::{Hop, Step};
 
 // Adds to each link's load how often it stands among the hops.
@@ -18,11 +17,8 @@ fn count(hops: &[u16], loads: &mut [u16])
     ensures by_index { (link : ℕ) → get_or loads.new link 0 ≡ get_or loads.old link 0 + occurs link hops.now }
     ensures sum { total loads.new ≡ total loads.old + length hops.now }
 {
-    let mut i = 0;
-    while i < hops.len() {
-        let link = wide(hops[i]);
-        loads[link] = loads[link] + 1;
-        i += 1;
+    for &link in hops {
+        loads[usize::from(link)] += 1;
     }
 }
 
@@ -38,7 +34,8 @@ fn open(places: usize, firsts: &mut [u16], nexts: &mut [u16]) -> usize
 {
     let mut link = 0;
     let mut place: u16 = 0;
-    while wide(place) < places {
+    // no `for`: what ends it is the place, and a `for` over the links would test that beside
+    while usize::from(place) < places {
         let load = nexts[link];
         firsts[link] = place;
         nexts[link] = place;
@@ -74,15 +71,12 @@ fn rule_out(path: &[u16], firsts: &[u16], nexts: &[u16], steps: &[u16], words: &
     requires { Searchable path.now firsts.now nexts.now (length steps.now) }
     ensures { MarksAdded path.now firsts.now nexts.now steps.now words.old words.new }
 {
-    let mut hop = 0;
-    let mut offset: u16 = 0;
-    while hop < path.len() {
-        let link = path[hop];
-        let from = wide(firsts[wide(link)]);
-        let to = wide(nexts[wide(link)]);
-        marks::mark_starts(&steps[from..to], wide(offset), words);
+    let mut offset = 0;
+    for &link in path {
+        let from = usize::from(firsts[usize::from(link)]);
+        let to = usize::from(nexts[usize::from(link)]);
+        marks::mark_starts(&steps[from..to], usize::from(offset), words);
         offset = offset_after(offset, link);
-        hop += 1;
     }
 }
 
@@ -110,15 +104,12 @@ pub(crate) fn enter(path: &[u16], start: u16, nexts: &mut [u16], steps: &mut [u1
     ensures entries { EntriesAdded path.now (claim_steps (place start (path_claims path.now))) nexts.old steps.old
         nexts.new steps.new }
 {
-    let mut hop = 0;
-    let mut offset: u16 = 0;
-    while hop < path.len() {
-        let link = path[hop];
-        let at = nexts[wide(link)];
+    let mut offset = 0;
+    for &link in path {
+        let at = nexts[usize::from(link)];
         let step = Step::of(start, Hop(offset));
-        steps[wide(at)] = step.0 as u16;
-        nexts[wide(link)] = at + 1;
+        steps[usize::from(at)] = step.0 as u16;
+        nexts[usize::from(link)] = at + 1;
         offset = offset_after(offset, link);
-        hop += 1;
     }
 }

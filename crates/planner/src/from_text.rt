@@ -8,7 +8,11 @@ use job::{Job, JobLists, Refusal};
 use job_text::LentLists;
 
 // Reads a job's text into the lists that are lent, and finds its greedy starts, over the first places of another.
-pub fn read_and_plan(text: &[u8], lists: &mut LentLists, starts: &mut [u16; Job::PACKETS]) -> Result<Job, Refusal>
+pub fn read_and_plan(
+    text: &[u8],
+    lists: &mut LentLists,
+    starts: &mut [u16; Job::PACKETS],
+) -> Result<Job, Refusal>
     ensures read_and_planned { ReadAndPlannedAs (read_in text.now (lists_in lists.old)) result
         (lists_in lists.old) (lists_in lists.new) starts.old starts.new }
     ensures same { SameLists lists.old lists.new }

@@ -55,19 +55,14 @@ fn start_each(
         let path = paths.path(k);
         // no start lies further than there are hops before it
         let enough = paths.begin(k) / 64 + 1;
-        let start = search(
-            path,
-            firsts,
-            &nexts[..],
-            &steps[..],
-            &mut words[0..enough],
-        ) as u16;
+        let start = search(path, firsts, nexts, steps, &mut words[0..enough]) as u16;
         starts[k] = start;
-        enter(path, start, &mut nexts[..], &mut steps[..]);
+        enter(path, start, nexts, steps);
     }
 }
 
-// Writes the greedy starts, packet by packet, over the first places.
+// Writes the greedy starts, packet by packet, over the first places. Nothing is allocated: the entries and the marks are arrays of the
+// greatest sizes.
 pub(crate) fn fill(paths: &Paths, starts: &mut [u16])
     requires { length paths.now.stops.now ≤ length starts.old }
     ensures { starts.new ≡ greedy_starts paths.now.stops.now paths.now.hops.now ++ drop (length paths.now.stops.now) starts.old }
@@ -77,14 +72,7 @@ pub(crate) fn fill(paths: &Paths, starts: &mut [u16])
     let mut steps = [0u16; Job::HOPS];
     let mut words = [0u64; WORDS];
     make_room(paths.hops, &mut firsts, &mut nexts);
-    start_each(
-        paths,
-        starts,
-        &firsts,
-        &mut nexts,
-        &mut steps,
-        &mut words,
-    );
+    start_each(paths, starts, &firsts, &mut nexts, &mut steps, &mut words);
 }
 
 // The difference of two entry steps, where both packets enter. Document 01 names this form: the steps as i32, one less the other.
@@ -111,15 +99,10 @@ pub fn plan(lists: &JobLists, starts: &mut [u16]) -> Result<(), Refusal>
     ensures { PlannedAs (planned (job_in lists.now) (length starts.old)) result starts.old starts.new }
 {
     lists.tables()?;
-    let JobLists {
-        sources,
-        stops,
-        hops,
-        ..
-    } = *lists;
-    if starts.len() < sources.len() {
+    if starts.len() < lists.sources.len() {
         return Err(Refusal::ShortRoom);
     }
+    let JobLists { stops, hops, .. } = *lists;
     fill(&Paths { stops, hops }, starts);
     Ok(())
 }
@@ -154,11 +137,4 @@ pub fn lead(lists: &JobLists, starts: &[u16], a: u16, b: u16, link: u16) -> Resu
     let first = packets.entry(a, link);
     let second = packets.entry(b, link);
     difference(first, second)
-}
-
-// TEMPORARY
-fn wide(x: u16) -> usize
-    ensures { result ≡ x }
-{
-    usize::from(x)
 }

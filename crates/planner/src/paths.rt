@@ -37,6 +37,6 @@ impl<'a> Paths<'a> {
         requires { hop < length self.now.hops.now }
         ensures { OnPath self.now.stops.now hop result }
     {
-        self.stops.partition_point(|stop| usize::from(*stop) <= hop)
+        self.stops.partition_point(|&stop| usize::from(stop) <= hop)
     }
 }

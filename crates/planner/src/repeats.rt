@@ -1,36 +1,34 @@
 // Entries that repeat one before them: each link's steps are compared with the one before and, unless each is later, marked one by one, and
 // the marks wiped; where a step was marked already, the hops are walked, in list order.
-ghost use Rattle.std.specs.Prelude.{◌≡◌, false, List, ℕ, ◌-◌, ◌≤◌, length, take, drop};
+ghost use Rattle.std.specs.Prelude.{◌≡◌, false, ◌↔◌, IsTrue, List, ℕ, ◌-◌, ◌≤◌, length, take, drop};
+ghost use Rattle.std.specs.Option.{unwrap_or};
+ghost use Rattle.std.specs.List.Sorted.{IsStrictlyIncreasing};
 ghost use Rattle.marks.specs.Marks.{unmarked};
 ghost use Rattle.planner.specs.Entries.{Below};
 ghost use Rattle.planner.specs.Again.{FirstAgain, InOrder};
-ghost use Rattle.planner.specs.Cuts.{FirstRepeat, each_later, MarksWithin, Markable, Cuttable, Cut, SameParts, Walkable, FirstBeyond};
+ghost use Rattle.planner.specs.Cuts.{FirstRepeat, MarksWithin, Markable, Cuttable, Cut, SameParts, Walkable, FirstBeyond};
 
-use crate::wide;
+use marks::Word;
 
-// Marks the steps up to the first that is marked already, since it stands among those before it: its place, or the number of steps. A word
-// stays in hand for as long as the steps fall in it, so that no look at it waits for a store.
-fn mark_to_repeat(steps: &[u16], words: &mut [u64]) -> usize
+// Marks the steps up to the first that is marked already, since it stands among those before it; its place, if there is one. A word stays
+// in hand for as long as the steps fall in it, so that no look at it waits for a store.
+fn mark_to_repeat(steps: &[u16], words: &mut [u64]) -> Option<usize>
     requires { Markable steps.now words.old }
     ensures first_repeat { FirstRepeat steps.now result }
-    ensures marks { MarksWithin (take result steps.now) words.new }
+    ensures marks { MarksWithin (take (unwrap_or result (length steps.now)) steps.now) words.new }
 {
-    let mut word = marks::take_word(words, 0);
-    let mut place = 0;
-    'steps: loop {
-        if place == steps.len() {
-            marks::put_word(word, words);
-            break 'steps place;
+    let mut word = Word::take(words, 0);
+    for (place, &step) in steps.iter().enumerate() {
+        let step = usize::from(step);
+        word = word.change(step, words);
+        if word.is_marked(step) {
+            word.put(words);
+            return Some(place);
         }
-        let step = wide(steps[place]);
-        word = marks::change_word(word, step, words);
-        if marks::is_marked_in(word, step) {
-            marks::put_word(word, words);
-            break 'steps place;
-        }
-        word = marks::mark_in(word, step);
-        place += 1;
+        word = word.with_mark(step);
     }
+    word.put(words);
+    None
 }
 
 // Takes the marks of the steps away, where no word has others.
@@ -38,50 +36,41 @@ fn unmark(steps: &[u16], words: &mut [u64])
     requires { MarksWithin steps.now words.old }
     ensures { words.new ≡ unmarked (length words.old) }
 {
-    let mut at = 0;
-    while at < steps.len() {
-        marks::wipe(words, wide(steps[at]));
-        at += 1;
+    for &step in steps {
+        marks::wipe(words, usize::from(step));
     }
 }
 
-// The place of the first step that stands among those before it, or the number of steps. No mark is left.
-fn first_repeat(steps: &[u16], words: &mut [u64]) -> usize
+// The place of the first step that stands among those before it, if one does. No mark is left.
+fn first_repeat(steps: &[u16], words: &mut [u64]) -> Option<usize>
     requires { Markable steps.now words.old }
     ensures first_repeat { FirstRepeat steps.now result }
     ensures clear { words.new ≡ words.old }
 {
     let repeat = mark_to_repeat(steps, words);
-    unmark(&steps[0..repeat], words);
+    unmark(&steps[..repeat.unwrap_or(steps.len())], words);
     repeat
 }
 
 // Whether each step is later than the one before it, so that none repeats another.
 fn each_later(steps: &[u16]) -> bool
-    ensures { result ≡ each_later steps.now }
+    ensures { IsTrue result ↔ IsStrictlyIncreasing steps.now }
 {
-    let mut at = 1;
-    while at < steps.len() {
-        if steps[at] <= steps[at - 1] {
-            return false;
-        }
-        at += 1;
-    }
-    true
+    steps.is_sorted_by(|step, next| step < next)
 }
 
-// Where a link's part is to end: at its first entry that repeats one before it, if one does. Where each is later than the one before it, as
+// How far into its part a link's first entry stands that repeats one before it, if one does. Where each is later than the one before it, as
 // with packets that follow one another along a path, none does, and no mark is needed.
-fn cut(from: u16, to: u16, steps: &[u16], words: &mut [u64]) -> u16
+fn cut(from: u16, to: u16, steps: &[u16], words: &mut [u64]) -> Option<usize>
     requires { (from ≤ to) × (to ≤ length steps.now) × Markable steps.now words.old }
-    ensures lower_bound { (from ≤ result) × FirstRepeat (take (to - from) (drop from steps.now)) (result - from) }
+    ensures first_repeat { FirstRepeat (take (to - from) (drop from steps.now)) result }
     ensures clear { words.new ≡ words.old }
 {
-    let part = &steps[wide(from)..wide(to)];
+    let part = &steps[usize::from(from)..usize::from(to)];
     if each_later(part) {
-        to
+        None
     } else {
-        from + first_repeat(part, words) as u16
+        first_repeat(part, words)
     }
 }
 
@@ -98,38 +87,31 @@ fn cut_at_repeats(
     ensures whole { result ≡ false → SameParts nexts.old nexts.new }
 {
     let mut shorter = false;
-    let mut l = 0;
-    while l < links {
-        let next = nexts[l];
-        let end = cut(firsts[l], next, steps, words);
-        shorter = shorter || end != next;
-        nexts[l] = end;
-        l += 1;
+    for link in 0..links {
+        if let Some(repeat) = cut(firsts[link], nexts[link], steps, words) {
+            nexts[link] = firsts[link] + repeat as u16;
+            shorter = true;
+        }
     }
     shorter
 }
 
-// The first hop whose entry lies at its link's cut, or the number of hops. Each hop before it moves its link's place on.
-fn first_beyond(hops: &[u16], firsts: &mut [u16], cuts: &[u16]) -> usize
+// The first hop whose entry lies at its link's cut, if one does. Each hop before it moves its link's place on.
+fn first_beyond(hops: &[u16], firsts: &mut [u16], cuts: &[u16]) -> Option<usize>
     requires { Walkable hops.now firsts.old cuts.now }
     ensures { FirstBeyond hops.now firsts.old cuts.now result }
 {
-    let mut hop = 0;
-    'hops: loop {
-        if hop == hops.len() {
-            break 'hops hop;
+    for (hop, &link) in hops.iter().enumerate() {
+        let link = usize::from(link);
+        if firsts[link] == cuts[link] {
+            return Some(hop);
         }
-        let link = wide(hops[hop]);
-        let place = firsts[link];
-        if place == cuts[link] {
-            break 'hops hop;
-        }
-        firsts[link] = place + 1;
-        hop += 1;
+        firsts[link] += 1;
     }
+    None
 }
 
-// The first hop, in list order, that enters its link in a step in which a hop before it does; the number of hops, where none does.
+// The first hop, in list order, that enters its link in a step in which a hop before it does, if one does.
 pub(crate) fn first_again(
     links: usize,
     hops: &[u16],
@@ -137,7 +119,7 @@ pub(crate) fn first_again(
     nexts: &mut [u16],
     steps: &[u16],
     words: &mut [u64],
-) -> usize
+) -> Option<usize>
     requires { Below hops.now links × Cuttable links firsts.old nexts.old steps.now words.old }
     ensures { (all : List ℕ) → InOrder hops.now all firsts.old nexts.old steps.now → FirstAgain hops.now all result }
 {
@@ -145,6 +127,6 @@ pub(crate) fn first_again(
     if shorter {
         first_beyond(hops, firsts, nexts)
     } else {
-        hops.len()
+        None
     }
 }

@@ -34,7 +34,7 @@ pub(crate) struct Started<'a> {
 fn hop_of(path: &[u16], link: u16) -> Option<usize>
     ensures { result ≡ position (λ l. l == link) path.now }
 {
-    path.iter().position(|on| *on == link)
+    path.iter().position(|&on| on == link)
 }
 
 impl Started<'_> {
@@ -64,14 +64,13 @@ impl Started<'_> {
         requires { k ≤ length self.now.starts.now }
         ensures { held_by result ≡ holder_of 0 (before_in self.now k) link step.0 }
     {
-        (0..k as u16).find(|j| self.enters(usize::from(*j), link, step))
+        (0..k as u16).find(|&j| self.enters(usize::from(j), link, step))
     }
 
     // The clash of packet k on the link in the step, where one listed before it has it.
     fn clash_at(&self, k: usize, link: u16, step: Step) -> Option<Clash>
         requires { k ≤ length self.now.starts.now }
-        ensures { found_of result ≡ clash_with k link step.0
-            (holder_of 0 (before_in self.now k) link step.0) }
+        ensures { found_of result ≡ clash_with k link step.0 (holder_of 0 (before_in self.now k) link step.0) }
     {
         let earlier = self.holder(k, link, step)?;
         let later = k as u16;
@@ -90,18 +89,13 @@ impl Started<'_> {
         ensures entries { EntriesAdded self.now.paths.hops.now (all_steps (packets_in self.now))
             nexts.old steps.old nexts.new steps.new }
     {
-        for (packet, start) in self.starts.iter().enumerate() {
-            enter(
-                self.paths.path(packet),
-                *start,
-                &mut nexts[..],
-                &mut steps[..],
-            );
+        for (packet, &start) in self.starts.iter().enumerate() {
+            enter(self.paths.path(packet), start, nexts, steps);
         }
     }
 
     // The first hop, in list order, that enters its link in a step in which a hop before it does, by way of the entries in the rooms that
-    // are lent; the number of hops, where none does.
+    // are lent, if one does.
     fn conflict_among(
         &self,
         links: usize,
@@ -109,17 +103,17 @@ impl Started<'_> {
         nexts: &mut [u16],
         steps: &mut [u16],
         words: &mut [u64],
-    ) -> usize
+    ) -> Option<usize>
         requires { EntriesBefore self.now.paths.stops.now self.now.paths.hops.now self.now.starts.now 0 firsts.old nexts.old steps.old
             × OnLinks links self.now.paths.hops.now × (widest < 64 * length words.old) × (words.old ≡ unmarked (length words.old)) }
         ensures { FirstAgain self.now.paths.hops.now (all_steps (packets_in self.now)) result }
     {
-        self.enter_each(&mut nexts[..], &mut steps[..]);
-        first_again(links, self.paths.hops, firsts, nexts, &steps[..], words)
+        self.enter_each(nexts, steps);
+        first_again(links, self.paths.hops, firsts, nexts, steps, words)
     }
 
-    // The same, with rooms of its own.
-    fn first_conflict(&self) -> usize
+    // The same, with rooms of its own: nothing is allocated, so they are arrays of the greatest sizes.
+    fn first_conflict(&self) -> Option<usize>
         ensures { FirstAgain self.now.paths.hops.now (all_steps (packets_in self.now)) result }
     {
         let mut firsts = [0u16; Job::LINKS];
@@ -134,10 +128,7 @@ impl Started<'_> {
     pub(crate) fn first_clash(&self) -> Option<Clash>
         ensures { found_of result ≡ clash_after [] (packets_in self.now) }
     {
-        let hop = self.first_conflict();
-        if hop == self.paths.hops.len() {
-            return None;
-        }
+        let hop = self.first_conflict()?;
         let later = self.paths.packet_of(hop);
         let from = self.paths.begin(later);
         let step = Step::of(self.starts[later], Hop((hop - from) as u16));

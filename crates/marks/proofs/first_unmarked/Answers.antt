@@ -1,16 +1,20 @@
--- The lowest bit that is not set in a word is the lowest that is set in its complement.
-use Rattle.std.proofs.Common.{arith}
-use Rattle.marks.proofs.Marking.{full_word, first_in_word, first_past_words}
+-- A word that is looked at is full, or it has the first number without a mark. Where all are full, that comes after them.
+use Rattle.std.proofs.Common.{◌≡◌, ◌∙◌, sym, arith}
+use lib.ListN.{length, take, length-take}
+use Rattle.marks.proofs.Marking.{looked_at, full_word, first_in_word, first_past_words}
 use Rattle.marks.proofs.first_unmarked.Goals as goal
-use Rattle.marks.proofs.first_unmarked.Goals.{then-at-words-via-then-at-words, then-at-words-via-else-at-words+then-at-eq-WORDS}
 
-pub words-preserved : goal.words-preserved
-words-preserved c = (omega arith, omega arith, full_word _ _ c.words.invariant.2 c.if-word.false)
+pub loop-at-preserved : goal.loop-at-preserved
+loop-at-preserved c = full_word _ _ c.loop-at.invariant (sym (looked_at _ _ _ c.loop-at-test.true) ∙ c.if-word.false)
 
-pub returns-then-at-words : goal.returns-then-at-words
-returns-then-at-words c =
-    first_past_words _ _ c.words.invariant.2 c.words.invariant.1
-    (λ l. elim c.then-at-words.branch [ then-at-words-via-then-at-words w ↦ omega arith | then-at-words-via-else-at-words+then-at-eq-WORDS w ↦ omega arith ])
+pub returns-after-loop-at : goal.returns-after-loop-at
+returns-after-loop-at c =
+    let looked = length-take c.min.result c.args.words.now in
+    let all : length (take c.min.result c.args.words.now) ≡ c.loop-at.at = omega arith in
+    rw all (first_past_words _ _ c.loop-at.invariant (omega arith) (λ l. omega arith))
 
 pub returns-then-word : goal.returns-then-word
-returns-then-word c = first_in_word _ _ c.words.invariant.2 (omega arith) (omega (arith, c.type_inv.words c.words.at))
+returns-then-word c =
+    let word = looked_at _ _ _ c.loop-at-test.true in
+    rw (c.trailing_ones.ensures, word)
+    (first_in_word _ _ c.loop-at.invariant (omega (arith, length-take c.min.result c.args.words.now)) (omega (arith, word, c.type_inv.words c.loop-at.at)))

@@ -5,12 +5,12 @@ use Rattle.marks.specs.Marks.{with_starts}
 use Rattle.marks.proofs.Marking.{word_taken, one-more-start}
 use Rattle.marks.proofs.mark_starts.Goals as goal
 
-pub loop-i-init : goal.loop-i-init
-loop-i-init c = ap (with_starts _ _) (sym (word_taken _ 0 c.take_word-word.ensures.0 c.take_word-word.ensures.1))
+pub loop-step-init : goal.loop-step-init
+loop-step-init c = ap (with_starts _ _) (sym (word_taken _ 0 c.take-word.ensures.0 c.take-word.ensures.1))
 
-pub loop-i-preserved : goal.loop-i-preserved
-loop-i-preserved c = c.loop-i.invariant ∙ one-more-start _ _ _ _ _ _ c.loop-i-test.true refl c.mark_start-word.ensures
+pub loop-step-preserved : goal.loop-step-preserved
+loop-step-preserved c = c.loop-step.invariant ∙ one-more-start _ _ _ _ _ _ c.loop-step-test.true refl c.mark_start-word.ensures
 
 pub returns : goal.returns
 unfolding with_starts
-returns c = c.put_word.ensures ∙ sym (c.loop-i.invariant ∙ rw (drop_of_length-le _ c.loop-i-test.false))
+returns c = c.put.ensures ∙ sym (c.loop-step.invariant ∙ rw (drop_of_length-le _ c.loop-step-test.false))

@@ -8,8 +8,8 @@ returns-in_err-tables c =
     let e : c.from_residual.result ≡ Err c.in_err-tables.field-0.0 = search rules in
     rw e (plan_refused _ _ c.in_err-tables.ensures _)
 
-pub returns-then-starts-sources : goal.returns-then-starts-sources
-returns-then-starts-sources c = plan_short _ c.in_ok-tables.ensures _ c.if-starts-sources.true
+pub returns-then-starts-lists : goal.returns-then-starts-lists
+returns-then-starts-lists c = plan_short _ c.in_ok-tables.ensures _ c.if-starts-lists.true
 
 pub invariant_of-fill : goal.invariant_of-fill
 invariant_of-fill c = record { simple = job_listed _ (fine_job _ c.in_ok-tables.ensures) }
@@ -18,4 +18,4 @@ pub fill-requires : goal.fill-requires
 fill-requires c = omega (arith, (fine_job _ c.in_ok-tables.ensures).stops_count)
 
 pub returns : goal.returns
-returns c = plan_filled _ c.in_ok-tables.ensures c.if-starts-sources.false c.fill.ensures
+returns c = plan_filled _ c.in_ok-tables.ensures c.if-starts-lists.false c.fill.ensures

@@ -4,8 +4,9 @@ use Rattle.planner.proofs.RoomsOpened.{counted_le, counted_turn}
 use Rattle.planner.proofs.entries.count.Goals as goal
 
 pub overflow_add-loads : goal.overflow_add-loads
-overflow_add-loads c = omega (arith, counted_le c.loop-i.invariant c.wide-link.result)
+overflow_add-loads c = omega (arith, counted_le c.loop-link.invariant c.from.result)
 
-pub loop-i-preserved : goal.loop-i-preserved
-loop-i-preserved c =
-    counted_turn c.loop-i.invariant c.loop-i-test.true c.wide-link.ensures (omega (arith, c.requires.0 c.loop-i.i c.loop-i-test.true))
+pub loop-link-preserved : goal.loop-link-preserved
+loop-link-preserved c =
+    let more = c.loop-link-test.true in
+    counted_turn c.loop-link.invariant more c.from.ensures (omega (arith, c.requires.0 c.loop-link.link-index more))

@@ -1,19 +1,22 @@
--- Each turn cuts one link's part, which had one before or not.
-use Rattle.std.proofs.Common.{refl, sym, ◌∙◌, arith}
-use Rattle.planner.proofs.PartsCut.{cut_to_turn, cut_to_done, still_whole}
-use Rattle.planner.proofs.repeats.cut_at_repeats.Goals.{then-shorter, else-shorter}
+-- Each turn cuts one link's part, or leaves it whole where none of its entries repeats another.
+use Rattle.std.proofs.Common.{◌<◌, length, sym, ◌∙◌, arith}
+use Rattle.planner.proofs.PartsCut.{cut_to_repeat, cut_to_end, cut_to_done}
+use Rattle.planner.proofs.repeats.cut_at_repeats.Goals.{in-Some, in_default}
 use Rattle.planner.proofs.repeats.cut_at_repeats.Goals as goal
 
-pub loop-l-preserved : goal.loop-l-preserved
-loop-l-preserved c = (
-  cut_to_turn c.loop-l.invariant.0 (omega (arith, c.requires.few, c.requires.lengths, c.loop-l.invariant.0.long)) refl refl _
-      c.cut-end.ensures.lower_bound,
-  c.cut-end.ensures.clear ∙ c.loop-l.invariant.1,
-  λ e. elim c.if-shorter.branch [
-    | then-shorter w ↦ cc
-    | else-shorter w ↦ still_whole c.loop-l.invariant.0 _ (c.loop-l.invariant.2 w.if-shorter.false) (sym w.shorter-is ∙ e)
-  ],
-)
+pub loop-link-preserved : goal.loop-link-preserved
+loop-link-preserved c =
+    let (so_far, clear, whole) = c.loop-link.invariant in
+    let more : c.loop-link.link < length c.loop-link.nexts = omega (arith, c.requires.few, c.requires.lengths, so_far.long) in
+    let first = c.cut.ensures.first_repeat in
+    elim c.match-cut.branch [
+      | in-Some w ↦ (rw w.nexts-is (cut_to_repeat so_far more _ (rw w.in-Some.is at first)), c.cut.ensures.clear ∙ clear, λ e. cc)
+      | in_default w ↦ (
+        rw w.nexts-is (cut_to_end so_far more c.requires.parts (rw w.in_default.is at first)),
+        c.cut.ensures.clear ∙ clear,
+        λ e. rw w.nexts-is (whole (sym w.shorter-is ∙ e)),
+      )
+    ]
 
 pub returns-clause-cut : goal.returns-clause-cut
-returns-clause-cut c = cut_to_done c.loop-l.invariant.0 c.requires c.loop-l-test.false
+returns-clause-cut c = cut_to_done c.loop-link.invariant.0 c.requires c.loop-link-test.false

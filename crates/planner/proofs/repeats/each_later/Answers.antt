@@ -1,13 +1,14 @@
--- Each turn compares the step with the last that was looked at.
-use Rattle.std.proofs.Common.{sym, ◌∙◌, arith}
-use Rattle.planner.proofs.PartsCut.{later_fails, later_on, later_done}
+-- The comparisons say of each step and the next what is asked.
+use Rattle.std.proofs.Common.{◌≡◌, ℕ, Bool, true, false, IsTrue, ◌↔◌, List, nat_lt, sym, refl, rules}
+use borrow.Author.Tests.{ltb-true, lt-ltb}
+use Rattle.std.proofs.lemmas.List.Sorted.{answers_always}
+use Rattle.std.specs.List.{IsAllAdjacentAnswer}
+use Rattle.std.specs.List.Sorted.{IsStrictlyIncreasing}
 use Rattle.planner.proofs.repeats.each_later.Goals as goal
 
-pub returns-then-steps-at : goal.returns-then-steps-at
-returns-then-steps-at c = sym (c.loop-at.invariant.1 ∙ later_fails _ _ c.loop-at.invariant.0 c.loop-at-test.true c.if-steps-at.true)
-
-pub loop-at-preserved : goal.loop-at-preserved
-loop-at-preserved c = (omega arith, c.loop-at.invariant.1 ∙ later_on _ _ c.loop-at.invariant.0 c.loop-at-test.true c.if-steps-at.false)
+told : (steps : List ℕ) (r : Bool) → IsAllAdjacentAnswer (λ x y b. b ≡ nat_lt x y) steps r → IsTrue r ↔ IsStrictlyIncreasing steps
+told steps true h = (λ _ k l. ltb-true _ _ (sym (h k 0 l)), λ _. refl)
+told steps false h = (λ e. absurd (cc), λ later. let e = h.2 0 in let l = lt-ltb _ _ (later h.0 h.1) in cc)
 
 pub returns : goal.returns
-returns c = sym (c.loop-at.invariant.1 ∙ later_done _ _ c.loop-at.invariant.0 c.loop-at-test.false)
+returns c = told _ _ (c.is_sorted_by.ensures.cases nat_lt (answers_always _ _ _ (λ f a r g h. search rules)))

@@ -3,7 +3,7 @@ use Rattle.planner.proofs.StepsRepeated.{first_beyond_again, never_again}
 use Rattle.planner.proofs.repeats.first_again.Goals as goal
 
 pub returns-then-shorter : goal.returns-then-shorter
-returns-then-shorter c = λ all order. first_beyond_again order c.cut_at_repeats-shorter.ensures.cut c.first_beyond.ensures
+returns-then-shorter c = λ all order. first_beyond_again order _ c.cut_at_repeats-shorter.ensures.cut c.first_beyond.ensures
 
 pub returns-else-shorter : goal.returns-else-shorter
 returns-else-shorter c =

@@ -3,11 +3,11 @@ use Rattle.std.proofs.Common.{arith}
 use Rattle.planner.proofs.PartsCut.{walked_turn, walked_to_cut}
 use Rattle.planner.proofs.repeats.first_beyond.Goals as goal
 
-pub hops-preserved : goal.hops-preserved
-hops-preserved c =
-    walked_turn c.hops.invariant (omega arith) c.wide-link.ensures
-    (omega (arith, c.requires.0 c.hops.hop, c.wide-link.ensures, c.hops.invariant.long))
-    (omega (arith, c.hops.invariant.short c.wide-link.result))
+pub returns-then-firsts-link : goal.returns-then-firsts-link
+returns-then-firsts-link c = walked_to_cut c.loop-hop.invariant c.loop-hop-test.true c.from-link.ensures c.if-firsts-link.true
 
-pub returns-then-place-cuts : goal.returns-then-place-cuts
-returns-then-place-cuts c = walked_to_cut c.hops.invariant (omega arith) c.wide-link.ensures c.if-place-cuts.true
+pub loop-hop-preserved : goal.loop-hop-preserved
+loop-hop-preserved c =
+    walked_turn c.loop-hop.invariant c.loop-hop-test.true c.from-link.ensures
+    (omega (arith, c.requires.0 c.loop-hop.hop, c.from-link.ensures, c.loop-hop.invariant.long))
+    (omega (arith, c.loop-hop.invariant.short c.from-link.result))

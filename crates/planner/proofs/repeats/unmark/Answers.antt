@@ -2,8 +2,8 @@
 use Rattle.planner.proofs.StepsMarked.{wiped_to_turn, wiped_to_done}
 use Rattle.planner.proofs.repeats.unmark.Goals as goal
 
-pub loop-at-preserved : goal.loop-at-preserved
-loop-at-preserved c = rw c.wipe.ensures (wiped_to_turn c.loop-at.invariant c.loop-at-test.true c.wide.ensures)
+pub loop-step-preserved : goal.loop-step-preserved
+loop-step-preserved c = rw c.wipe.ensures (wiped_to_turn c.loop-step.invariant c.loop-step-test.true c.from.ensures)
 
 pub returns : goal.returns
-returns c = wiped_to_done c.loop-at.invariant c.loop-at-test.false
+returns c = wiped_to_done c.loop-step.invariant c.loop-step-test.false
