@@ -20,6 +20,7 @@ pub struct Job {
     pub hops: u16,
 }
 
+// The sizes are constants of the job's type: document 01 names this form.
 impl Job {
     // nodes are 1 to this
     pub const NODES: usize = 1024;
@@ -38,60 +39,23 @@ impl Job {
     // the latest start that may be handed in
     pub const START: u16 = 32767;
 
-    // Each of these is the number that the rules name.
-    pub fn nodes_most() -> usize
-        ensures { result ≡ nodes_most }
-    {
-        Job::NODES
-    }
-
-    pub fn links_most() -> usize
-        ensures { result ≡ links_most }
-    {
-        Job::LINKS
-    }
-
-    pub fn packets_most() -> usize
-        ensures { result ≡ packets_most }
-    {
-        Job::PACKETS
-    }
-
-    pub fn path_most() -> usize
-        ensures { result ≡ path_most }
-    {
-        Job::PATH
-    }
-
-    pub fn hops_most() -> usize
-        ensures { result ≡ hops_most }
-    {
-        Job::HOPS
-    }
-
-    pub fn text_most() -> usize
-        ensures { result ≡ text_most }
-    {
-        Job::TEXT
-    }
-
-    pub fn plan_most() -> usize
-        ensures { result ≡ plan_most }
-    {
-        Job::PLAN
-    }
-
-    pub fn start_most() -> u16
-        ensures { result ≡ start_most }
-    {
-        Job::START
-    }
+    // Each is the number of that name in the rules. There is nothing to do: the clauses are what is said.
+    pub fn sizes()
+        ensures nodes { Job.NODES ≡ nodes_most }
+        ensures links { Job.LINKS ≡ links_most }
+        ensures packets { Job.PACKETS ≡ packets_most }
+        ensures path { Job.PATH ≡ path_most }
+        ensures hops { Job.HOPS ≡ hops_most }
+        ensures text { Job.TEXT ≡ text_most }
+        ensures plan { Job.PLAN ≡ plan_most }
+        ensures start { Job.START ≡ start_most }
+    {}
 }
 
 // Words with a bit for each node of a job.
 const NODE_WORDS: usize = 16;
 
-// A position along a path.
+// A position along a path. It and the step are tuple structs: document 01 names this form.
 #[derive(Clone, Copy, Debug, PartialEq, Eq)]
 pub struct Hop(pub u16);
 
@@ -332,8 +296,8 @@ impl JobLists<'_> {
         let mut from = 0;
         for (k, (&source, &stop)) in self.sources.iter().zip(self.stops).enumerate() {
             let to = usize::from(stop);
-            self.network
-                .packet_verdict(&self.hops[from..to], source, k as u32)?;
+            let path = &self.hops[from..to];
+            self.network.packet_verdict(path, source, k as u32)?;
             from = to;
         }
         Ok(())

@@ -30,14 +30,14 @@ loop-k-init c = (c.requires.2, refl)
 pub offset_bounds-self-from : goal.offset_bounds-self-from
 offset_bounds-self-from c = omega (arith, part (goal.at.offset_bounds-self-from c).After-from-to)
 
-pub slice_bounds-packet_verdict-count : goal.slice_bounds-packet_verdict-count
-slice_bounds-packet_verdict-count c = (part (goal.at.slice_bounds-packet_verdict-count c).After-from-to).0
+pub slice_bounds-path-count : goal.slice_bounds-path-count
+slice_bounds-path-count c = (part (goal.at.slice_bounds-path-count c).After-from-to).0
 
-pub slice_bounds-packet_verdict-start : goal.slice_bounds-packet_verdict-start
-slice_bounds-packet_verdict-start c = (part (goal.at.slice_bounds-packet_verdict-start c).After-from-to).0
+pub slice_bounds-path-start : goal.slice_bounds-path-start
+slice_bounds-path-start c = (part (goal.at.slice_bounds-path-start c).After-from-to).0
 
-pub slice_bounds-packet_verdict-end : goal.slice_bounds-packet_verdict-end
-slice_bounds-packet_verdict-end c = (part (goal.at.slice_bounds-packet_verdict-end c).After-from-to).1
+pub slice_bounds-path-end : goal.slice_bounds-path-end
+slice_bounds-path-end c = (part (goal.at.slice_bounds-path-end c).After-from-to).1
 
 pub returns-in_err-packet_verdict : goal.returns-in_err-packet_verdict
 returns-in_err-packet_verdict c =
