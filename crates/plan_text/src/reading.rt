@@ -152,60 +152,58 @@ impl<'a> PlanReader<'a> {
     }
 }
 
-impl Plan<'_> {
-    // Line by line: a start that is too late, then an end that does not follow from the start.
-    fn rows_verdict(&self, ends: &[u16]) -> Result<(), Refusal>
-        requires { length ends.now ≡ length self.now.starts.now }
-        ensures { verdict_of result ≡ rows_verdict one_step 1 (rows_in self.now.starts.now ends.now) (paths (job_in self.now.lists)) }
-    {
-        for (k, &start) in self.starts.iter().enumerate() {
-            let line = k as u32 + 1;
-            if start > Job::START {
-                return Err(Refusal::LateStart(line));
-            }
-            if u32::from(ends[k]) != self.end(k).0 {
-                return Err(Refusal::NotFollowing(line));
-            }
+// Line by line: a start that is too late, then an end that does not follow from the start.
+fn rows_verdict(plan: &Plan, ends: &[u16]) -> Result<(), Refusal>
+    requires { length ends.now ≡ length plan.now.starts.now }
+    ensures { verdict_of result ≡ rows_verdict one_step 1 (rows_in plan.now.starts.now ends.now) (paths (job_in plan.now.lists)) }
+{
+    for (k, &start) in plan.starts.iter().enumerate() {
+        let line = k as u32 + 1;
+        if start > Job::START {
+            return Err(Refusal::LateStart(line));
         }
-        Ok(())
+        if u32::from(ends[k]) != plan.end(k).0 {
+            return Err(Refusal::NotFollowing(line));
+        }
     }
+    Ok(())
+}
 
-    // The T line, which is this line: routing time, C and D that do not follow from the starts.
-    fn totals_verdict(&self, said: Three, line: u32) -> Result<(), Refusal>
-        ensures { verdict_of result ≡ totals_verdict line (job_in self.now.lists) self.now.starts.now (three_told said) }
-    {
-        if u32::from(said.first) != self.routing_time() {
-            return Err(Refusal::NotFollowing(line));
-        }
-        if u32::from(said.second) != self.congestion() {
-            return Err(Refusal::NotFollowing(line));
-        }
-        if u32::from(said.third) != self.dilation() {
-            return Err(Refusal::NotFollowing(line));
-        }
-        Ok(())
+// The T line, which is this line: routing time, C and D that do not follow from the starts.
+fn totals_verdict(plan: &Plan, said: Three, line: u32) -> Result<(), Refusal>
+    ensures { verdict_of result ≡ totals_verdict line (job_in plan.now.lists) plan.now.starts.now (three_told said) }
+{
+    if u32::from(said.first) != plan.routing_time() {
+        return Err(Refusal::NotFollowing(line));
     }
+    if u32::from(said.second) != plan.congestion() {
+        return Err(Refusal::NotFollowing(line));
+    }
+    if u32::from(said.third) != plan.dilation() {
+        return Err(Refusal::NotFollowing(line));
+    }
+    Ok(())
+}
 
-    // What the lines say follows from the starts: the packets' lines, then the T line below them.
-    fn followed(&self, ends: &[u16], said: Three) -> Result<(), Refusal>
-        requires { length ends.now ≡ length self.now.starts.now }
-        ensures { verdict_of result
-            ≡ onward (followed (job_in self.now.lists) (rows_in self.now.starts.now ends.now) (three_told said)) (λ starts. fine) }
-    {
-        self.rows_verdict(ends)?;
-        let line = self.starts.len() as u32 + 1;
-        self.totals_verdict(said, line)
-    }
+// What the lines say follows from the starts: the packets' lines, then the T line below them.
+fn followed(plan: &Plan, ends: &[u16], said: Three) -> Result<(), Refusal>
+    requires { length ends.now ≡ length plan.now.starts.now }
+    ensures { verdict_of result
+        ≡ onward (followed (job_in plan.now.lists) (rows_in plan.now.starts.now ends.now) (three_told said)) (λ starts. fine) }
+{
+    rows_verdict(plan, ends)?;
+    let line = plan.starts.len() as u32 + 1;
+    totals_verdict(plan, said, line)
 }
 
 // The starts that a plan's lines say for a job whose tables stand, in the first places of a list with room for every job's.
-fn find_starts(lists: &JobLists, plan: &[u8]) -> Result<[u16; Job::PACKETS], Refusal>
-    requires { (tables (job_in lists.now) ≡ fine) × (length plan.now ≤ text_most) }
-    ensures { outcome_of (λ starts. take (length lists.now.sources.now) starts) result ≡ lines_say (job_in lists.now) plan.now }
+fn find_starts(lists: &JobLists, text: &[u8]) -> Result<[u16; Job::PACKETS], Refusal>
+    requires { (tables (job_in lists.now) ≡ fine) × (length text.now ≤ text_most) }
+    ensures { outcome_of (λ starts. take (length lists.now.sources.now) starts) result ≡ lines_say (job_in lists.now) text.now }
 {
     let mut starts = [0; Job::PACKETS];
     let mut ends = [0; Job::PACKETS];
-    let reader = PlanReader::top(plan);
+    let reader = PlanReader::top(text);
     let rows = reader.rows(&mut starts, &mut ends)?;
     if rows.count != lists.sources.len() {
         return Err(Refusal::StartCount);
@@ -215,7 +213,7 @@ fn find_starts(lists: &JobLists, plan: &[u8]) -> Result<[u16; Job::PACKETS], Ref
         lists: *lists,
         starts: &starts[..rows.count],
     };
-    plan.followed(&ends[..rows.count], said)?;
+    followed(&plan, &ends[..rows.count], said)?;
     Ok(starts)
 }
 

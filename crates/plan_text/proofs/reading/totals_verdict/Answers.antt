@@ -1,7 +1,7 @@
 -- Routing time, then C, then D.
 use Rattle.std.proofs.Common.{◌∙◌, sym}
 use Rattle.plan_text.proofs.Following.{time_off, congestion_off, dilation_off, totals_follow}
-use Rattle.plan_text.proofs.Plan.totals_verdict.Goals as goal
+use Rattle.plan_text.proofs.reading.totals_verdict.Goals as goal
 
 pub returns-then-from-routing_time : goal.returns-then-from-routing_time
 returns-then-from-routing_time c = time_off _ _ _ _ c.routing_time.ensures (λ e. c.if-from-routing_time.true (c.from.ensures ∙ e))
