@@ -16,7 +16,7 @@ use lib.Seq.{length-take-le, drop-drop}
 use Rattle.counting.specs.Count.{pick}
 use Rattle.counting.proofs.Places.{from_place}
 use Rattle.rules.specs.Bytes.{tab, line_feed, number_of, cons_onto, numbers_of, split}
-use Rattle.std.proofs.Common.{Option as Answer, None, Some, Result, Ok, Err}
+use Rattle.std.proofs.Common.{None, Some, Result, Ok, Err}
 use Rattle.std.specs.Result.{result_ok}
 use Rattle.lines.specs.declared.reading.Number.{Number}
 use Rattle.lines.specs.declared.reading.Absent.{Absent}
@@ -74,14 +74,14 @@ field_short (b ∷ bs) = go (eqb b tab || eqb b line_feed) (field_short bs)
 -- ---- the letter
 
 module _ (text : List ℕ) (at : ℕ) where
-  pub letter_past : length text ≤ at → letter_of (drop at text) ≡ None
+  letter_past : length text ≤ at → letter_of (drop at text) ≡ None
   letter_past h = rw (drop_of_length-le text h)
 
   module _ (h : at < length text) where
-    pub letter_last : length text ≤ at + 1 → letter_of (drop at text) ≡ None
+    letter_last : length text ≤ at + 1 → letter_of (drop at text) ≡ None
     letter_last l = rw (from_place text at h, drop_of_length-le text l)
 
-    pub letter_byte : at + 1 < length text → letter_of (drop at text) ≡ pick (eqb (get_or text (at + 1) 0) tab) (Some (get_or text at 0)) None
+    letter_byte : at + 1 < length text → letter_of (drop at text) ≡ pick (eqb (get_or text (at + 1) 0) tab) (Some (get_or text at 0)) None
     letter_byte l = rw (from_place text at h, from_place text (at + 1) l)
 
   -- a letter has its place in the text

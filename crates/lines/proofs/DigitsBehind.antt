@@ -9,14 +9,12 @@ use native.Mathlib.Decide.{dec_lt}
 use native.Mathlib.Omega.{arith}
 use borrow.Author.Tests.{ne_eqb}
 use lib.Dec.{eqb}
-use lib.ListN.{length, get_or, take, drop, length-take, length-drop, drop_of_length-le}
-use Rattle.std.proofs.lemmas.List.{get_or-take, get_or-drop}
+use lib.ListN.{length, get_or, drop, drop_of_length-le}
 use Rattle.counting.specs.Count.{pick}
 use Rattle.counting.proofs.Places.{from_place}
 use Rattle.rules.specs.Sizes.{number_most}
 use Rattle.rules.specs.Bytes.{tab, line_feed, value_after, number_of}
 use Rattle.std.proofs.Common.{Ok, Err}
-use Rattle.lines.specs.declared.reading.Number.{Number}
 use Rattle.lines.specs.declared.reading.Absent.TheVariants.{NoNumber}
 use Rattle.lines.specs.Behind.{ends_here, field_rest, field_at}
 use Rattle.lines.proofs.Digits.{value_low, value_high, value_over, value_on, number_empty, number_zero, number_one, number_many}
@@ -48,7 +46,7 @@ module _ (text : List ℕ) (i : ℕ) where
   open_within : ends_here (drop i text) ≡ false → i < length text
   open_within e = elim (dec_lt i (length text)) [
     | yes h ↦ h
-    | no h ↦ absurd (let w = sym (ends_past text i (omega arith)) ∙ e in let z : ◌≡◌ {A = ℕ} 0 1 = cc in omega arith)
+    | no h ↦ absurd (let w = sym (ends_past text i (omega arith)) ∙ e in cc)
   ]
 
   -- a digit does not end it

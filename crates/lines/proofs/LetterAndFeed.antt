@@ -94,16 +94,16 @@ letter_open text at e l =
 -- ---- a byte at a place
 
 module _ (byte : ℕ) (text : List ℕ) (at : ℕ) where
-  pub begins-here : at < length text → begins byte (drop at text) ≡ eqb (get_or text at 0) byte
+  begins-here : at < length text → begins byte (drop at text) ≡ eqb (get_or text at 0) byte
   begins-here h = rw (from_place text at h)
 
-  pub begins_past : length text ≤ at → begins byte (drop at text) ≡ false
+  begins_past : length text ≤ at → begins byte (drop at text) ≡ false
   begins_past h = rw (drop_of_length-le text h)
 
   pub begun : begins byte (drop at text) ≡ true → (at < length text) × (get_or text at 0 ≡ byte)
   begun e = elim (dec_lt at (length text)) [
     | yes h ↦ (h, eqb-true _ _ (sym (begins-here h) ∙ e))
-    | no h ↦ absurd (let w = sym (begins_past (omega arith)) ∙ e in let z : ◌≡◌ {A = ℕ} 0 1 = cc in omega arith)
+    | no h ↦ absurd (let w = sym (begins_past (omega arith)) ∙ e in cc)
   ]
 
 -- ---- where a field ends
@@ -131,7 +131,7 @@ module _ (text : List ℕ) (at : ℕ) where
   unfed e = elim (dec_lt at (length text)) [
     | no h ↦ inl (omega (arith, (behind_end text at (omega arith)).ends))
     | yes h ↦ elim (ℕ_discrete (get_or text at 0) line_feed) [
-      | yes f ↦ absurd (let w = sym (begins-here line_feed text at h ∙ eq-eqb _ _ f) ∙ e in let z : ◌≡◌ {A = ℕ} 0 1 = cc in omega arith)
+      | yes f ↦ absurd (let w = sym (begins-here line_feed text at h ∙ eq-eqb _ _ f) ∙ e in cc)
       | no n ↦ inr (some_field (behind-field text at h n))
     ]
   ]
