@@ -1,5 +1,5 @@
 -- The difference of two entry steps, as the machine computes it and as the rules say it; and where one of the two does not enter.
-use mathlib.Core.Path.{◌≡◌, refl}
+use mathlib.Core.Path.{◌≡◌}
 use mathlib.Core.Bool.{Bool, true, false, cond}
 use mathlib.Core.Option as maybe
 use Prim.Native.Nat.{ℕ, zero, suc, ◌<◌}

@@ -29,7 +29,7 @@ use Rattle.planner.specs.EntriesAdded.{claim_steps, all_steps, EntriesAdded}
 use Rattle.planner.proofs.PathParts.{part}
 use Rattle.planner.proofs.Searching.{hops_before}
 use Rattle.planner.proofs.StepsInOrder.{all_links, all_links-append, all_as_many, links_of_path, path_as_many}
-use Rattle.planner.proofs.EnteringLinks.{EnteredSoFar, entered-start, entered_turn, entered_done, nexts_done}
+use Rattle.planner.proofs.EnteringLinks.{EnteredSoFar, entered_turn, entered_done, nexts_done}
 use Rattle.planner.proofs.EntriesKept.{hops_from_begin, hops_below}
 use Rattle.planner.proofs.Clashing.{drop-cons_at, take-suc_at, placed-le, packet_at}
 

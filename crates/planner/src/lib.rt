@@ -55,9 +55,9 @@ fn start_each(
         let path = paths.path(k);
         // no start lies further than there are hops before it
         let enough = paths.begin(k) / 64 + 1;
-        let start = search(path, firsts, &nexts[..], &steps[..], &mut words[0..enough]) as u16;
+        let start = search(path, firsts, nexts, steps, &mut words[0..enough]) as u16;
         starts[k] = start;
-        enter(path, start, &mut nexts[..], &mut steps[..]);
+        enter(path, start, nexts, steps);
     }
 }
 

@@ -90,12 +90,7 @@ impl Started<'_> {
             nexts.old steps.old nexts.new steps.new }
     {
         for (packet, &start) in self.starts.iter().enumerate() {
-            enter(
-                self.paths.path(packet),
-                start,
-                &mut nexts[..],
-                &mut steps[..],
-            );
+            enter(self.paths.path(packet), start, nexts, steps);
         }
     }
 
@@ -113,8 +108,8 @@ impl Started<'_> {
             × OnLinks links self.now.paths.hops.now × (widest < 64 * length words.old) × (words.old ≡ unmarked (length words.old)) }
         ensures { FirstAgain self.now.paths.hops.now (all_steps (packets_in self.now)) result }
     {
-        self.enter_each(&mut nexts[..], &mut steps[..]);
-        first_again(links, self.paths.hops, firsts, nexts, &steps[..], words)
+        self.enter_each(nexts, steps);
+        first_again(links, self.paths.hops, firsts, nexts, steps, words)
     }
 
     // The same, with rooms of its own: nothing is allocated, so they are arrays of the greatest sizes.
