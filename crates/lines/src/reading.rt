@@ -88,7 +88,7 @@ fn ends_at(text: &[u8], at: usize) -> bool
 }
 
 // The number of the field that begins at a place of a text, and where the field ends. The first digit is read by itself, so that the loop
-// has nothing to tell apart. The loop goes by index: over the bytes `&text[begin + 1..]` a path's numbers take half as long again.
+// has nothing to tell apart. It goes by index: over the slice behind that digit a path's numbers take a seventh longer.
 #[tactic(auto, using(crate::proofs::DigitsBehind::digit_steps))]
 fn number_at(text: &[u8], begin: usize) -> Result<Number, Absent>
     ensures { result ≡ field_at text.now begin }
@@ -153,7 +153,7 @@ pub fn copy_behind(text: &[u8], at: usize, list: &mut [u16], from: usize) -> Opt
         × (list.new ≡ sets list.old from (leading (fields_behind text.now at))) }
 {
     let mut place = at;
-    let mut count: usize = 0;
+    let mut count = 0;
     let mut next = from;
     loop {
         match field_behind(text, place) {
