@@ -62,10 +62,8 @@ impl Plan<'_> {
     fn routing_time(&self) -> u32
         ensures { result ≡ routing_time one_step self.now.starts.now (paths (job_in self.now.lists)) }
     {
-        (0..self.starts.len())
-            .map(|k| self.end(k).0)
-            .max()
-            .unwrap_or(0)
+        let latest = (0..self.starts.len()).map(|k| self.end(k).0).max();
+        latest.unwrap_or(0)
     }
 
     // D: the hops of the longest path.

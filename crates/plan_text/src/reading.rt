@@ -102,11 +102,11 @@ fn rows_at(plan: &[u8], place: Lines, starts: &mut [u16], ends: &mut [u16]) -> R
 fn totals_at(plan: &[u8], place: Lines) -> Result<Three, Refusal>
     ensures { result ≡ totals_at plan.now place }
 {
-    let last = line_at(plan, place, b'T').ok_or(Refusal::BadForm(place.line))?;
-    if last.next.at < plan.len() {
-        return Err(Refusal::BadForm(last.next.line));
+    let ThreeLine { said, next } = line_at(plan, place, b'T').ok_or(Refusal::BadForm(place.line))?;
+    if next.at < plan.len() {
+        return Err(Refusal::BadForm(next.line));
     }
-    Ok(last.said)
+    Ok(said)
 }
 
 // The plan's bytes, and the place of the next line in them. Document 01 names this form: a small struct with the slice in it, and thin
