@@ -9,7 +9,7 @@ use lib.Dec.{leb}
 use lib.ListN.{length, take, drop, length-append}
 use lib.Seq.{sets-eq, take-append_seam}
 use borrow.Author.Tests.{le-leb}
-use Rattle.std.specs.Prelude.{Result, Ok, Err}
+use Rattle.std.specs.Prelude.{Ok, Err}
 use Rattle.rules.specs.Sizes.{plan_most}
 use Rattle.rules.specs.Outcome.{Outcome, is, refused, onward}
 use Rattle.rules.specs.Bytes.{letter_r, line_text}
@@ -39,7 +39,7 @@ unfolding lent_after
 put_printed {text} {lent} put fits =
     record { bytes = put.past ∙ zero-add _; room = put.stored ∙ sets-eq text lent 0 (omega (arith, fits)) ∙ rw zero-add }
 
-module _ (text room : List ℕ) (fits : plan_most ≤ length room) {after : List ℕ} where
+module _ (text room : List ℕ) (fits : plan_most ≤ length room) where
   -- 10 is never the answer
   same_answer : answered text (length room) ≡ answer text
   unfolding answered in_room
@@ -49,19 +49,19 @@ module _ (text room : List ℕ) (fits : plan_most ≤ length room) {after : List
       go (is plan) short = let fit : leb (length plan) (length room) ≡ true = le-leb (length plan) (length room) (omega (arith, short plan refl, fits)) in rw fit
       go (refused n p) short = refl
 
-  pub plan_printed : (bytes : ℕ) → WrittenAs (answered text (length room)) (Ok bytes) room after → PrintedAs (plans text) bytes room after
+  pub plan_printed : (bytes : ℕ) {after : List ℕ} → WrittenAs (answered text (length room)) (Ok bytes) room after → PrintedAs (plans text) bytes room after
   unfolding plans printed
-  plan_printed bytes a = go (answer text) (rw same_answer at a)
+  plan_printed bytes {after} a = go (answer text) (rw same_answer at a)
     where
       go : (o : Outcome (List ℕ)) → WrittenAs o (Ok bytes) room after → PrintedAs (printed o) bytes room after
       go (is plan) w = record { bytes = is_iff.0 w.bytes; room = w.room }
       go (refused n p) w = absurd (refused_not_is (sym w.bytes))
 
-  pub refusal_printed : (r : Refusal) → WrittenAs (answered text (length room)) (Err r) room after
+  pub refusal_printed : (r : Refusal) {after : List ℕ} → WrittenAs (answered text (length room)) (Err r) room after
       → {exit : List ℕ} {next : ℕ} → Put after 0 (line_text letter_r ((number_place r).0 ∷ (number_place r).1 ∷ [])) exit next
       → PrintedAs (plans text) next room exit
   unfolding plans printed lent_after
-  refusal_printed r a {exit} {next} put = go (answer text) (plans-length text) (rw same_answer at a)
+  refusal_printed r {after} a {exit} {next} put = go (answer text) (plans-length text) (rw same_answer at a)
     where
       go : (o : Outcome (List ℕ)) → length (printed o) ≤ plan_most → WrittenAs o (Err r) room after → PrintedAs (printed o) next room exit
       go (is plan) short w = absurd (refused_not_is w.bytes)

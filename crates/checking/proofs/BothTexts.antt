@@ -6,7 +6,7 @@ use Prim.Native.Nat.{ℕ, ◌≤◌}
 use native.Mathlib.Omega.{arith}
 use lib.ListN.{length, replicate, length-replicate}
 use borrow.Author.Tests.{le-leb}
-use Rattle.std.specs.Prelude.{Option, Result, Ok, Err, ⊥}
+use Rattle.std.specs.Prelude.{Option, Result, Ok, Err}
 use Rattle.std.specs.Result.{MatchResult, IsErrAnd}
 use Rattle.rules.specs.Sizes.{packets_most}
 use Rattle.rules.specs.Network.{Job}
@@ -31,12 +31,24 @@ use Rattle.checking.specs.declared.Refused.{Refused}
 use Rattle.checking.specs.declared.Refused.TheVariants.{Job as JobRefused, Plan as PlanRefused}
 use Rattle.checking.specs.Told.{texts_of}
 
--- what the check of the plan answers is what the two texts come to, once the job is read
-pub of_the_plan : (told : Result (Option Clash) Refusal) (answer : Result (Option Clash) Refused)
-    → MatchResult told (λ found. answer ≡ Ok found) (λ r. IsErrAnd answer (λ e. e ≡ PlanRefused r)) → texts_of answer ≡ of_plan (checked_of told)
-of_the_plan (Ok found) answer e = ap texts_of e
-of_the_plan (Err r) (Ok found) e = absurd e
-of_the_plan (Err r) (Err refusal) e = rw e refl
+-- an answer whose refusal is said to be that of one of the texts
+abbrev pub Of : {A : Type 0} → (Refusal → Refused) → Result A Refusal → Result A Refused → Type 0
+Of text told answer = MatchResult told (λ a. answer ≡ Ok a) (λ r. IsErrAnd answer (λ e. e ≡ text r))
+
+pub job_read : (told : Result Counts Refusal) {answer : Result Counts Refused} {counts : Counts} → Of JobRefused told answer → answer ≡ Ok counts → told ≡ Ok counts
+job_read (Ok counts) of e = cc
+job_read (Err r) {answer} {counts} of e = absurd (rw e at of)
+
+pub job_not_read : (told : Result Counts Refusal) {answer : Result Counts Refused} {e : Refused} → Of JobRefused told answer → answer ≡ Err e
+    → (r : Refusal) × (told ≡ Err r) × (e ≡ JobRefused r)
+job_not_read (Ok counts) of e = absurd (cc)
+job_not_read (Err r) of e = (r, refl, rw e at of)
+
+pub of_the_plan : (told : Result (Option Clash) Refusal) (answer : Result (Option Clash) Refused) → Of PlanRefused told answer
+    → texts_of answer ≡ of_plan (checked_of told)
+of_the_plan (Ok found) answer of = ap texts_of of
+of_the_plan (Err r) (Ok found) of = absurd of
+of_the_plan (Err r) (Err refusal) of = rw of refl
 
 module _ (job plan : List ℕ) {lent after : Lists} (h : roomy lent ≡ true) where
   pub job_refused : (r : Refusal) → ReadAs (read_in job lent) (Err r) lent after → texts_of (Err (JobRefused r)) ≡ checked_texts job plan
@@ -60,12 +72,12 @@ module _ (job plan : List ℕ) {lent after : Lists} (h : roomy lent ≡ true) wh
         go (refused n p) f = refl
 
     -- the check of the plan for the job that was read
-    pub plan_checked : (j : Job) → j ≡ so_far counts after → {told : Result (Option Clash) Refusal}
+    pub plan_checked : (j : Job) → j ≡ so_far counts after → (told : Result (Option Clash) Refusal)
         → checked_of told ≡ onward (plan_read_in j plan places) (λ starts. checked j starts) → of_plan (checked_of told) ≡ checked_texts job plan
     unfolding checked_texts
-    plan_checked j same e =
+    plan_checked j same told e =
         let said = read_stands job a in
-        let its : of_plan (checked_of _) ≡ of_plan (onward (plan_read_in j plan places) (λ starts. checked j starts)) = ap of_plan e in
+        let its : of_plan (checked_of told) ≡ of_plan (onward (plan_read_in j plan places) (λ starts. checked j starts)) = ap of_plan e in
         its ∙ rw (same, room_for_starts _ said, said)
 
 -- an array of starts has room for those of every job

@@ -1,7 +1,7 @@
 -- The plan reader's answer for a job as lists, then the check's.
-use mathlib.Core.Path.{◌≡◌, sym, ◌∙◌}
+use mathlib.Core.Path.{◌≡◌, refl, ◌∙◌}
 use mathlib.Core.List.{List, ◌++◌}
-use Prim.Native.Nat.{ℕ, ◌-◌, ◌≤◌}
+use Prim.Native.Nat.{ℕ, ◌≤◌}
 use native.Mathlib.Omega.{arith}
 use lib.ListN.{length, take, drop, length-append}
 use lib.Seq.{take-append-le, take_all}
@@ -15,7 +15,7 @@ use Rattle.job.specs.Told.{refusal_of}
 use Rattle.planner.specs.declared.Clash.{Clash}
 use Rattle.planner.specs.Told.{checked_of}
 use Rattle.plan_text.specs.Told.{ReadBackAs}
-use Rattle.plan_text.proofs.Obeys.{StartsRead, read_starts}
+use Rattle.plan_text.proofs.Obeys.{read_starts}
 
 -- a list in front of others is what its places hold
 front_of : (xs ys : List ℕ) {list : List ℕ} {n : ℕ} → list ≡ xs ++ ys → n ≡ length xs → take n list ≡ xs
@@ -36,9 +36,9 @@ module _ (j : Job) (plan : List ℕ) (places : ℕ) {lent after : List ℕ} wher
         let r = read_starts j plan places p refl in
         rw r.stand (omega (arith, r.started.count, length-append r.starts (drop (length r.starts) lent)))
 
-    pub checked_told : (told : Result (Option Clash) Refusal) → checked_of told ≡ checked j (take (length j.sources - 0) after)
+    pub checked_told : (told : Result (Option Clash) Refusal) → checked_of told ≡ checked j (take (length j.sources) after)
         → checked_of told ≡ onward (plan_read_in j plan places) (λ starts. checked j starts)
     checked_told told ensures =
         let r = read_starts j plan places p refl in
-        let n : length j.sources - 0 ≡ length r.starts = omega (arith, r.started.count) in
+        let n : length j.sources ≡ length r.starts = omega (arith, r.started.count) in
         rw (front_of r.starts (drop (length r.starts) lent) r.stand n) at ensures ∙ rw r.said

@@ -24,15 +24,12 @@ pub enum Refused {
 }
 
 // The check of a plan's text for a job as lists. Its starts are found in a lent list.
-fn checked_plan(
-    lists: &JobLists,
-    plan: &[u8],
-    starts: &mut [u16],
-) -> Result<Option<Clash>, Refusal>
+fn checked_plan(lists: &JobLists, plan: &[u8], starts: &mut [u16]) -> Result<Option<Clash>, Refusal>
     ensures { checked_of result ≡ onward (plan_read_in (job_in lists.now) plan.now (length starts.old)) (λ starts. checked_starts (job_in lists.now) starts) }
 {
     plan_text::reading::read(lists, plan, starts)?;
-    planner::check(lists, &starts[..lists.sources.len()])
+    let packets = lists.sources.len();
+    planner::check(lists, &starts[..packets])
 }
 
 // The check of a plan's text for a job's text.

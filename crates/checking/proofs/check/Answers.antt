@@ -1,21 +1,17 @@
 -- The job's lists, then the plan.
-use Rattle.job_text.proofs.Accepts.{read_holds, counted, roomy_arrays}
-use Rattle.checking.proofs.BothTexts.{job_refused_told, texts_told, places}
+use Rattle.std.proofs.Common.{rules, ◌≡◌, Err, ◌∙◌}
+use Rattle.job_text.proofs.Accepts.{roomy_arrays}
+use Rattle.checking.proofs.BothTexts.{job_read, job_not_read, of_the_plan, job_refused, plan_checked, places}
 use Rattle.checking.proofs.check.Goals as goal
 
-pub slice_bounds-checked_plan-end : goal.slice_bounds-checked_plan-end
-slice_bounds-checked_plan-end c = counted c.wide-links.ensures (read_holds _ c.in-Read.is c.read-reading.ensures).origins
+pub returns-in_err-counts : goal.returns-in_err-counts
+returns-in_err-counts c =
+    let e : c.from_residual.result ≡ Err c.in_err-counts.field-0.0 = search rules in
+    let (r, told, same) = job_not_read _ c.map_err.ensures.cases c.in_err-counts.was in
+    rw (e, same) (job_refused _ _ roomy_arrays r (rw told at c.read.ensures.read))
 
-pub slice_bounds-checked_plan-end-in-Read-2 : goal.slice_bounds-checked_plan-end-in-Read-2
-slice_bounds-checked_plan-end-in-Read-2 c = counted c.wide-packets.ensures (read_holds _ c.in-Read.is c.read-reading.ensures).sources
-
-pub slice_bounds-checked_plan-end-in-Read-4 : goal.slice_bounds-checked_plan-end-in-Read-4
-slice_bounds-checked_plan-end-in-Read-4 c = counted c.wide.ensures (read_holds _ c.in-Read.is c.read-reading.ensures).hops
-
-pub returns-in-Refused : goal.returns-in-Refused
-returns-in-Refused c = job_refused_told _ _ roomy_arrays c.read-reading.ensures c.in-Refused.is
-
-pub returns-in-Read : goal.returns-in-Read
-returns-in-Read c =
-    texts_told _ _ roomy_arrays c.read-reading.ensures c.in-Read.is _ places c.wide-links.ensures c.wide-packets.ensures c.wide.ensures
-    c.checked_plan.ensures
+pub returns : goal.returns
+returns c =
+    let told = job_read _ c.map_err.ensures.cases c.in_ok-counts.was in
+    of_the_plan _ _ c.map_err-2.ensures.cases
+    ∙ plan_checked _ _ roomy_arrays (rw told at c.read.ensures.read) _ places _ c.job.ensures _ c.checked_plan.ensures

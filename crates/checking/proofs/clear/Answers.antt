@@ -1,7 +1,8 @@
 -- Six bytes, in a room that has them.
 use Rattle.std.proofs.Common.{refl}
-use Rattle.answer.proofs.Printing.{put_printed}
+use Rattle.rules.specs.Answers.{lent_after}
 use Rattle.checking.proofs.clear.Goals as goal
 
 pub returns : goal.returns
-returns c = put_printed (record { stored = refl; past = refl }) c.requires
+unfolding lent_after
+returns c = rw c.copy_from_slice.ensures.after (record { bytes = refl; room = refl })
