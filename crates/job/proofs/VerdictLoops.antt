@@ -1,26 +1,17 @@
 -- The rules' verdicts on lists as the code comes by them. Of each loop, what the rest of its lists is at a turn and after the
 -- last; of each chain of tests, a law for every way out.
-use mathlib.Core.Path.{◌≡◌, refl, sym, ap, ◌∙◌}
+use Rattle.std.proofs.Common.{◌≡◌, ℕ, zero, suc, ◌+◌, ◌-◌, ◌≤◌, ◌<◌, min, Bool, true, false, not, ◌&&◌, ◌||◌, eqb, leb, nat_lt, Option, Some, None, unwrap_or, List, [], ◌∷◌, ◌++◌, length, get_or, slice_get, take, drop, refl, sym, ap, ◌∙◌, add-one, sub-one, arith}
+use Rattle.std.specs.List.{IsAllAdjacentAnswer, filter_map, cons_option, list_any, position, position_from}
+use Rattle.std.proofs.Math.Bool.{and-false}
+use Rattle.std.proofs.Math.ListN.{get_elem?, drop_of_length-le}
+use Rattle.std.proofs.Math.Nat.{sub-zero, zero-sub, suc-sub-suc}
 use Rattle.std.proofs.Math.Option.{Option as Maybe, none, some}
-use Rattle.std.proofs.Math.ListN.{get_elem?}
-use Rattle.std.proofs.Common.{Option, Some, None, slice_get, nat_lt, min}
-use Rattle.std.proofs.lemmas.List.Elements.{filter_map-append}
-use Rattle.std.proofs.Common.{unwrap_or}
-use Rattle.std.specs.List.{IsAllAdjacentAnswer}
-use Rattle.std.proofs.lemmas.Option.{unwrap_or-slice_get}
-use Rattle.std.specs.List.{filter_map, cons_option, list_any, position, position_from}
+use Rattle.std.proofs.Math.Seq.{take-suc, take-nil, slice}
 use Rattle.std.proofs.lemmas.Iterator.Adapters.{position_from-zero}
-use mathlib.Core.Bool.{Bool, true, false, not, ◌&&◌, ◌||◌, and-false}
-use mathlib.Core.List.{List, [], ◌∷◌, ◌++◌}
-use Prim.Native.Nat.{ℕ, zero, suc, ◌+◌, ◌-◌, ◌≤◌, ◌<◌}
-use native.Mathlib.Numerals.{add-one, sub-one}
-use native.Mathlib.Nat.{sub-zero, zero-sub, suc-sub-suc}
+use Rattle.std.proofs.lemmas.List.Elements.{filter_map-append}
+use Rattle.std.proofs.lemmas.Option.{unwrap_or-slice_get}
 use native.Mathlib.Decide.{dec_lt}
-use native.Mathlib.Omega.{arith}
 use borrow.Author.Tests.{leb-true, leb-false, lt-leb, le-leb, lt-ltb, le-ltb, eq-eqb, eqb-true, ne_eqb}
-use lib.Dec.{eqb, leb}
-use lib.ListN.{length, get_or, take, drop, drop_of_length-le}
-use lib.Seq.{take-suc, take-nil, slice}
 use Rattle.counting.specs.Count.{among}
 use Rattle.counting.proofs.Tests.{and_left, and_right}
 use Rattle.counting.proofs.Places.{from_place, some_same, none_not_some}

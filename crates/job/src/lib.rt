@@ -1,13 +1,13 @@
 // A job as lists: its sizes, steps and hops, what can be refused, and the verdict on its tables.
 #![tactic(auto)]
 
-ghost use Rattle.std.specs.Prelude.{◌≡◌, true, [], ◌∷◌, ℕ, ◌+◌, ◌≤◌, ◌<◌, length, get_or, take, slice_get};
+ghost use Rattle.std.specs.Prelude.{◌≡◌, true, [], ◌∷◌, ◌+◌, ◌≤◌, length, slice_get};
 ghost use Rattle.counting.specs.Count.{among};
 ghost use Rattle.rules.specs.Sizes.{nodes_most, links_most, packets_most, path_most, hops_most, text_most, plan_most, start_most};
 ghost use Rattle.rules.specs.Network.{link_at, paths};
 ghost use Rattle.rules.specs.Tables.{link_verdict, walk as walk_verdict, packet_verdict, links_verdict, packets_verdict, stops_agree, tables as tables_verdict};
 ghost use Rattle.rules.specs.Answers.{starts_verdict, started_verdict};
-ghost use Rattle.job.specs.Lists.{network_of, network_in, job_in, link_found, is_node, entered, lists_agree, sizes_fit};
+ghost use Rattle.job.specs.Lists.{network_in, job_in, link_found, is_node, entered, lists_agree, sizes_fit};
 ghost use Rattle.job.specs.Told.{number_place, verdict_of};
 ghost use Rattle.job.specs.Visited.{mark_of, with_visit, MarkedAs};
 

@@ -14,10 +14,13 @@ pub returns-in_err-get-2 : goal.returns-in_err-get-2
 unfolding link_at
 returns-in_err-get-2 c =
     let n = c.args.self.now in
-    rw (c.from_residual-in_err-get-2.ensures, at-get_or n.origins.now c.args.number 0 (omega (arith, c.from-number.ensures, c.in_ok-get.ensures.lookup)), at_none n.ends.now c.args.number (omega (arith, c.from-number.ensures, c.in_err-get-2.ensures.lookup)))
+    let from = at-get_or n.origins.now c.args.number 0 (omega (arith, c.from-number.ensures, c.in_ok-get.ensures.lookup)) in
+    rw (c.from_residual-in_err-get-2.ensures, from, at_none n.ends.now c.args.number (omega (arith, c.from-number.ensures, c.in_err-get-2.ensures.lookup)))
 
 pub returns : goal.returns
 unfolding link_at
 returns c =
     let n = c.args.self.now in
-    rw (at-get_or n.origins.now c.args.number c.in_ok-get.field-0.now (omega (arith, c.from-number.ensures, c.in_ok-get.ensures.lookup)), at-get_or n.ends.now c.args.number c.in_ok-get-2.field-0.now (omega (arith, c.from-number.ensures, c.in_ok-get-2.ensures.lookup)), ← c.from-number.ensures, ← c.in_ok-get.ensures.lookup.1, ← c.in_ok-get-2.ensures.lookup.1)
+    let from = at-get_or n.origins.now c.args.number c.in_ok-get.field-0.now (omega (arith, c.from-number.ensures, c.in_ok-get.ensures.lookup)) in
+    let to = at-get_or n.ends.now c.args.number c.in_ok-get-2.field-0.now (omega (arith, c.from-number.ensures, c.in_ok-get-2.ensures.lookup)) in
+    rw (from, to, ← c.from-number.ensures, ← c.in_ok-get.ensures.lookup.1, ← c.in_ok-get-2.ensures.lookup.1)
