@@ -24,9 +24,6 @@ use Rattle.plan_text.specs.PlanLines.{rows_in}
 pub record RowsLeft (paths : List (List ℕ)) (starts ends : List ℕ) (k : ℕ) : Type 0 where
   pub left : rows_verdict one_step 1 (rows_in starts ends) paths ≡ rows_verdict one_step (k + 1) (rows_in (drop k starts) (drop k ends)) (drop k paths)
 
-pub rows_start : (paths : List (List ℕ)) (starts ends : List ℕ) → RowsLeft paths starts ends 0
-rows_start paths starts ends = record { left = refl }
-
 module _ {paths : List (List ℕ)} {starts ends : List ℕ} {k : ℕ} (w : RowsLeft paths starts ends k)
     (same : length paths ≡ length starts) (ends_count : length ends ≡ length starts) where
   module _ (h : k < length starts) where

@@ -5,10 +5,10 @@ use mathlib.Core.List.{List, [], ◌∷◌}
 use Prim.Native.Nat.{ℕ, ◌+◌, ◌≤◌, ◌<◌}
 use native.Mathlib.Omega.{arith}
 use lib.Dec.{eqb}
-use lib.ListN.{length, get_or, set, take, drop, replicate, length-set, length-replicate, get_or-replicate, drop_of_length-le}
+use lib.ListN.{length, get_or, take, drop, replicate, length-replicate, get_or-replicate, drop_of_length-le}
 use Rattle.counting.specs.Count.{bit, any_of, among, occurs, sum_of}
 use Rattle.counting.proofs.Sums.{bit-le-one, bit_or, sum_le, sum_same, sum_const, sum_le_any}
-use Rattle.counting.proofs.Places.{from_place, at_mem, at-get_or, one-more_at}
+use Rattle.counting.proofs.Places.{at_mem, at-get_or}
 use Rattle.rules.specs.Sizes.{links_most, hops_most}
 use Rattle.rules.specs.Network.{Job, paths_from, paths}
 use Rattle.rules.specs.Outcome.{fine}
@@ -42,15 +42,6 @@ counting_start hops = record {
 module _ {hops loads : List ℕ} {i : ℕ} (w : Counting hops loads i) where
   pub load_le : (link : ℕ) → link < links_most → get_or loads link 0 ≤ length hops
   load_le link h = omega (arith, w.left link h, occurs-le link hops)
-
-  pub counting_turn : i < length hops → get_or hops i 0 < links_most
-      → Counting hops (set loads (get_or hops i 0) (get_or loads (get_or hops i 0) 0 + 1)) (i + 1)
-  counting_turn h l =
-      let link = get_or hops i 0 in
-      record {
-        long = length-set loads link _ ∙ w.long;
-        left = λ other m. omega (arith, one-more_at loads link other (omega (arith, w.long)), rw (from_place hops i) at (w.left other m));
-      }
 
   counted : length hops ≤ i → (link : ℕ) → link < links_most → get_or loads link 0 ≡ occurs link hops
   counted h link m = omega (arith, rw (drop_of_length-le hops {i = i} h) at (w.left link m))

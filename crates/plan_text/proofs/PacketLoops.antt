@@ -1,5 +1,5 @@
 -- The loop over the packets' lines: what the packets from the k-th on still add to what is written, at a turn and after the last.
-use mathlib.Core.Path.{◌≡◌, refl, sym, ◌∙◌}
+use mathlib.Core.Path.{◌≡◌, sym, ◌∙◌}
 use mathlib.Core.List.{List, [], ◌∷◌}
 use Prim.Native.Nat.{ℕ, ◌+◌, ◌*◌, ◌≤◌, ◌<◌}
 use native.Mathlib.Numerals.{add-one}
@@ -20,9 +20,6 @@ pub record LinesLeft (starts : List ℕ) (paths : List (List ℕ)) (before room 
   pub same : length room ≡ length before
   pub left : Put room at (packet_lines one_step k (drop k starts) (drop k paths)) (sets before 0 (packet_lines one_step 0 starts paths))
       (length (packet_lines one_step 0 starts paths))
-
-pub lines_start : (starts : List ℕ) (paths : List (List ℕ)) (before : List ℕ) → LinesLeft starts paths before before 0 0
-lines_start starts paths before = record { low = omega arith; same = refl; left = record { stored = refl; past = omega arith } }
 
 module _ {starts : List ℕ} {paths : List (List ℕ)} {before room : List ℕ} {at k : ℕ} (w : LinesLeft starts paths before room at k)
     (same : length paths ≡ length starts) where

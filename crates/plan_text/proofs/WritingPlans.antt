@@ -46,10 +46,6 @@ ample_room j starts {bytes} started ample =
     let fits : length (text_of_plan j starts) ≤ bytes = omega (arith, ample, started_plan_length j starts started) in
     sym (le-leb _ _ fits)
 
--- what was put into another list, for its length
-pub tried_room : (bytes : ℕ) {other text tried : List ℕ} {next : ℕ} → Put other 0 text tried next → leb next bytes ≡ leb (length text) bytes
-tried_room bytes try = rw (try.past, zero-add)
-
 -- ---- the ways out
 
 -- a refusal of the verdict

@@ -74,7 +74,8 @@ impl Plan<'_> {
         u32::from(longest.unwrap_or(0))
     }
 
-    // How many of the paths have each link. No path has one twice, so it is how often the link is among the hops.
+    // How many of the paths have each link. No path has one twice, so it is how often the link is among the hops. `count` of the planner's
+    // entries has the same loop: one function for both would be public and have a `requires`, which no public function has.
     fn loads(&self) -> [u16; Job::LINKS]
         ensures { (link : ℕ) → link < links_most → get_or result link 0 ≡ load link (paths (job_in self.now.lists)) }
     {
