@@ -2,17 +2,15 @@
 // one by one, and the answers in numbers, is the C interface's.
 #![tactic(auto)]
 
-ghost use Rattle.std.specs.Prelude.{◌≡◌, ◌≤◌, length, OnOk};
+ghost use Rattle.std.specs.Prelude.{◌≡◌, length};
 ghost use Rattle.rules.specs.Outcome.{is, onward};
-ghost use Rattle.rules.specs.Sizes.{packets_most};
 ghost use Rattle.rules.specs.Tables.{tables as tables_verdict};
-ghost use Rattle.rules.specs.Answers.{planned, led, in_room, written};
+ghost use Rattle.rules.specs.Answers.{planned, led, in_room, written, plan_read_in};
 ghost use Rattle.job.specs.Lists.{job_of, job_in};
-ghost use Rattle.job.specs.Told.{outcome_of};
 ghost use Rattle.job_text.specs.Told.{lists, reading_of};
 ghost use Rattle.planner.specs.Told.{found_of};
 ghost use Rattle.plan_text.specs.Told.{written_of, WrittenAs};
-ghost use Rattle.zhevgulor.specs.Told.{answer_for, lead_for, read_for, about_text, clash_numbers, LentAs, ReadFor};
+ghost use Rattle.zhevgulor.specs.Told.{answer_for, lead_for, read_for, about_text, clash_numbers, checked_in, LentAs, ReadFor};
 ghost use Rattle.zhevgulor.specs.Promise.{PlanPromise, CheckPromise};
 ghost use Rattle.zhevgulor.specs.PlanBackPromise.{ReadPlanPromise, CheckTextsPromise};
 
@@ -50,7 +48,7 @@ pub struct ReadAnswer {
     pub hops: u32,
 }
 
-// An answer on two texts, and which of them is refused: 0 neither, 1 the job's, 2 the plan's.
+// An answer on two texts, and which of them is refused.
 #[repr(C)]
 #[derive(Clone, Copy)]
 pub struct TextsAnswer {
@@ -58,6 +56,13 @@ pub struct TextsAnswer {
     pub refusal: u32,
     pub value: u32,
 }
+
+// The texts by number, as the C interface has them.
+const NEITHER: u32 = 0;
+
+const THE_JOB: u32 = 1;
+
+const THE_PLAN: u32 = 2;
 
 // The job in lists that come one by one.
 fn job_lists<'a>(
@@ -110,6 +115,14 @@ pub fn zhevgulor_tables(
     answer_of(lists.tables().map(|()| 0))
 }
 
+// The greedy starts of a job in a lent list, and how many they are.
+fn planned(lists: &JobLists, starts: &mut [u16]) -> Result<u32, Refusal>
+    ensures { WrittenAs (planned (job_in lists.now) (length starts.old)) result starts.old starts.new }
+{
+    planner::plan(lists, starts)?;
+    Ok(lists.sources.len() as u32)
+}
+
 // The greedy starts of a job: value is the number of packets, whose starts stand in the first places.
 pub fn zhevgulor_starts(
     nodes: u16,
@@ -123,8 +136,7 @@ pub fn zhevgulor_starts(
     ensures { LentAs (planned (job_of nodes origins.now ends.now sources.now stops.now hops.now) (length starts.old)) result starts.old starts.new }
 {
     let lists = job_lists(nodes, origins, ends, sources, stops, hops);
-    let planned = planner::plan(&lists, starts);
-    answer_of(planned.map(|()| sources.len() as u32))
+    answer_of(planned(&lists, starts))
 }
 
 // What a check found, in a lent list: the four numbers of a clash, where there is room for them, or nothing. And how many numbers it is.
@@ -194,9 +206,9 @@ pub fn zhevgulor_lead(
             place: 0,
             lead,
         },
-        Err(refusal) => LeadAnswer {
-            refusal: refusal.number(),
-            place: refusal.place(),
+        Err(why) => LeadAnswer {
+            refusal: why.number(),
+            place: why.place(),
             lead: 0,
         },
     }
@@ -239,9 +251,9 @@ fn counts_of(told: Result<Job, Refusal>) -> ReadAnswer
             packets: u32::from(job.packets),
             hops: u32::from(job.hops),
         },
-        Err(refusal) => ReadAnswer {
-            refusal: refusal.number(),
-            value: refusal.place(),
+        Err(reason) => ReadAnswer {
+            refusal: reason.number(),
+            value: reason.place(),
             nodes: 0,
             links: 0,
             packets: 0,
@@ -271,6 +283,15 @@ pub fn zhevgulor_read(
     counts_of(job_text::read(job, &mut lists))
 }
 
+// The starts that a plan's text says for a job, in a lent list, and how many they are.
+fn starts_said(lists: &JobLists, plan: &[u8], starts: &mut [u16]) -> Result<u32, Refusal>
+    ensures { WrittenAs (plan_read_in (job_in lists.now) plan.now (length starts.old)) result starts.old starts.new }
+{
+    plan_text::reading::read(lists, plan, starts)?;
+    let packets = lists.sources.len();
+    Ok(packets as u32)
+}
+
 // From a plan's text to the starts that it says for a job as lists: value is the number of packets, whose starts stand in the
 // first places.
 pub fn zhevgulor_read_plan(
@@ -286,8 +307,7 @@ pub fn zhevgulor_read_plan(
     ensures { ReadPlanPromise (job_of nodes origins.now ends.now sources.now stops.now hops.now) plan.now starts.old result starts.new }
 {
     let lists = job_lists(nodes, origins, ends, sources, stops, hops);
-    let read = plan_text::reading::read(&lists, plan, starts);
-    answer_of(read.map(|()| sources.len() as u32))
+    answer_of(starts_said(&lists, plan, starts))
 }
 
 fn about(text: u32, answer: Answer) -> TextsAnswer
@@ -306,8 +326,8 @@ pub fn zhevgulor_check_texts(job: &[u8], plan: &[u8], clash: &mut [u32]) -> Text
     ensures { CheckTextsPromise job.now plan.now clash.old result clash.new }
 {
     match checking::check(job, plan) {
-        Ok(found) => about(0, answer_of(shown(found, clash))),
-        Err(Refused::Job(refusal)) => about(1, answer_of(Err(refusal))),
-        Err(Refused::Plan(refusal)) => about(2, answer_of(Err(refusal))),
+        Ok(found) => about(NEITHER, answer_of(shown(found, clash))),
+        Err(Refused::Job(refusal)) => about(THE_JOB, answer_of(Err(refusal))),
+        Err(Refused::Plan(refusal)) => about(THE_PLAN, answer_of(Err(refusal))),
     }
 }

@@ -1,13 +1,7 @@
--- The check's answer, a clash in four numbers of the lent list.
+-- The check's answer, told in two numbers.
 use Rattle.zhevgulor.proofs.Promises.{check_promised}
-use Rattle.zhevgulor.proofs.ToldToC.{check_clear, check_refused, check_clash}
+use Rattle.zhevgulor.proofs.ToldToC.{text_told}
 use Rattle.zhevgulor.proofs.zhevgulor_check.Goals as goal
 
-pub returns-in-Clear : goal.returns-in-Clear
-returns-in-Clear c = check_promised _ _ _ (check_clear _ _ _ _ c.in-Clear.is c.check-checked.ensures c.value.ensures)
-
-pub returns-in-Refused : goal.returns-in-Refused
-returns-in-Refused c = check_promised _ _ _ (check_refused _ _ _ _ c.in-Refused.is c.check-checked.ensures c.refused.ensures)
-
-pub returns-in-Clash : goal.returns-in-Clash
-returns-in-Clash c = check_promised _ _ _ (check_clash _ _ _ _ c.in-Clash.is c.check-checked.ensures c.shown.ensures)
+pub returns : goal.returns
+returns c = rw c.job_lists-lists.ensures at (check_promised _ _ _ (text_told _ c.checked.ensures c.answer_of.ensures))

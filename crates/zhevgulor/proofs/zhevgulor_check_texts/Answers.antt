@@ -1,19 +1,18 @@
 -- What the two texts come to, and which of them is refused.
 use Rattle.zhevgulor.proofs.PlanBackPromises.{check_texts_promised}
-use Rattle.zhevgulor.proofs.ToldToC.{nothing_lent, refusal_lent, texts_for}
+use Rattle.zhevgulor.proofs.ToldToC.{text_told, refusal_lent, texts_for}
 use Rattle.zhevgulor.proofs.zhevgulor_check_texts.Goals as goal
 
-pub returns-in-Clear : goal.returns-in-Clear
-returns-in-Clear c = check_texts_promised _ _ _ (texts_for _ c.check-texts.ensures _ c.in-Clear.is c.about.ensures (nothing_lent _ c.value.ensures))
+pub returns-in-Ok : goal.returns-in-Ok
+returns-in-Ok c =
+    check_texts_promised _ _ _ (texts_for _ c.in-Ok.ensures c.about.ensures (text_told _ c.shown.ensures c.answer_of.ensures))
 
-pub returns-in-Clash : goal.returns-in-Clash
-returns-in-Clash c = check_texts_promised _ _ _ (texts_for _ c.check-texts.ensures _ c.in-Clash.is c.about-in-Clash.ensures c.shown.ensures)
-
-pub returns-in-JobRefused : goal.returns-in-JobRefused
-returns-in-JobRefused c =
-    check_texts_promised _ _ _ (texts_for _ c.check-texts.ensures _ c.in-JobRefused.is c.about-in-JobRefused.ensures (refusal_lent c.refused.ensures))
-
-pub returns-in-PlanRefused : goal.returns-in-PlanRefused
-returns-in-PlanRefused c =
+pub returns-in-Err-Job : goal.returns-in-Err-Job
+returns-in-Err-Job c =
     check_texts_promised _ _ _
-    (texts_for _ c.check-texts.ensures _ c.in-PlanRefused.is c.about-in-PlanRefused.ensures (refusal_lent c.refused-in-PlanRefused.ensures))
+    (texts_for _ (rw c.in-Err-Job.field-0-is at c.in-Err-Job.ensures) c.about-in-Err-Job.ensures (refusal_lent c.answer_of-in-Err-Job.ensures))
+
+pub returns-in-Err-Plan : goal.returns-in-Err-Plan
+returns-in-Err-Plan c =
+    check_texts_promised _ _ _
+    (texts_for _ (rw c.in-Err-Plan.field-0-is at c.in-Err-Plan.ensures) c.about-in-Err-Plan.ensures (refusal_lent c.answer_of-in-Err-Plan.ensures))

@@ -4,4 +4,4 @@ use Rattle.zhevgulor.proofs.ToldToC.{text_told}
 use Rattle.zhevgulor.proofs.zhevgulor_plan.Goals as goal
 
 pub returns : goal.returns
-returns c = plan_promised _ _ (text_told _ c.answer-text.ensures c.told.ensures)
+returns c = plan_promised _ _ (text_told _ c.answer.ensures c.answer_of.ensures)
