@@ -1,10 +1,9 @@
 // Numbers and lines written into a lent list of bytes, from a place on. A byte past the list's end goes nowhere, so a text fits
 // any list, and what it writes into a list that is too short still tells how long it is. List and place are handed on as they are: as a
 // struct with methods on `&mut self` they were tried, and a line took four tenths longer.
-ghost use Rattle.std.specs.Prelude.{[], ◌∷◌, ◌+◌, ◌^◌, ◌≤◌, ◌<◌, nat_lt};
-ghost use Rattle.std.specs.Bool.{OnTrue};
-ghost use Rattle.rules.specs.Bytes.{tab, decimal, line_text};
-ghost use Rattle.lines.specs.Put.{Put, longest_line};
+ghost use Rattle.std.specs.Prelude.{[], ◌∷◌, ◌+◌, ◌^◌, ◌≤◌, ◌<◌};
+ghost use Rattle.rules.specs.Bytes.{tab, decimal};
+ghost use Rattle.lines.specs.Put.{Put, longest_line, line_told};
 
 // A line of so many numbers or more might end past the last place that there is.
 const NUMBERS_MOST: usize = 1 << 32;
@@ -49,7 +48,7 @@ fn field(room: &mut [u8], at: usize, n: u32) -> usize
 // Writes a line of a letter and numbers. Of one with too many numbers to tell where it ends nothing is written.
 #[tactic(auto, using(crate::proofs::Putting::line_steps))]
 pub fn line<const N: usize>(room: &mut [u8], at: u32, letter: u8, numbers: [u32; N]) -> usize
-    ensures put { OnTrue (nat_lt N (2 ^ 32)) (Put room.old at (line_text letter numbers.entry) room.new result) }
+    ensures put { Put room.old at (line_told N letter numbers.entry) room.new result }
     ensures near { result ≤ at + longest_line N }
 {
     if N >= NUMBERS_MOST {

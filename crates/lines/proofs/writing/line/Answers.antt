@@ -1,8 +1,9 @@
--- The line is written where this is promised: of so few numbers.
-use Rattle.std.proofs.Common.{arith}
-use Rattle.std.proofs.lemmas.Bool.{OnTrue_from}
+-- The text of the line is the fields that were left; a line of too many numbers has none.
+use Rattle.std.proofs.Common.{◌^◌, arith}
+use Rattle.std.proofs.lemmas.Bool.{lt-ltb}
 use Rattle.lines.proofs.Putting.{fields_done}
 use Rattle.lines.proofs.writing.line.Goals as goal
 
 pub returns-clause-put : goal.returns-clause-put
-returns-clause-put g c = OnTrue_from _ _ (λ few. fields_done c.loop-n.invariant.left (omega arith) c.byte.ensures)
+returns-clause-put g c =
+    rw (lt-ltb g.row.N (2 ^ 32) (omega arith)) (fields_done c.loop-n.invariant.left (omega arith) c.byte.ensures)
