@@ -11,8 +11,7 @@ use native.Mathlib.Numerals.{add-one}
 use native.Mathlib.Omega.{arith}
 use lib.Dec.{eqb}
 use lib.ListN.{length, get_or, take, drop, set, length-set, length-take, length-drop}
-use lib.Seq.{take-suc, get_or-take, get_or-drop, set-get_or, get_or-set_same, get_or-set_other}
-use borrow.Author.Count.{below_none}
+use lib.Seq.{take-suc, set-get_or, get_or-set_same, get_or-set_other}
 use borrow.Author.Tests.{eqb-true, ne_eqb}
 use Rattle.counting.specs.Count.{bit, among, occurs}
 use Rattle.counting.proofs.Sums.{sum_append}
@@ -21,7 +20,7 @@ use Rattle.planner.specs.Entries.{steps_on, Parts}
 use Rattle.std.specs.Prelude.{Some, None}
 use Rattle.std.specs.List.Sorted.{IsStrictlyIncreasing}
 use Rattle.std.proofs.lemmas.List.Kept.{AllPairs-from_increasing}
-use Rattle.planner.specs.Cuts.{FirstRepeat, CutAt, Markable, Cuttable, Cut, place_of, FirstBeyond}
+use Rattle.planner.specs.Cuts.{FirstRepeat, CutAt, Cuttable, Cut, place_of, FirstBeyond}
 
 -- ---- steps each of which is later than the one before it
 
@@ -45,13 +44,6 @@ module _ (steps : List ℕ) (from to : ℕ) (rises : from ≤ to) (within : to �
   pub part_length : length part ≡ to - from
   part_length = omega (arith, length-take (to - from) (drop from steps), length-drop from steps)
 
-  -- what may be marked of all steps may be of its own
-  pub part_markable : (words : List ℕ) → Markable steps words → Markable part words
-  part_markable words can = (
-    λ i l. rw (get_or-take (to - from) (drop from steps) i 0 (omega (arith, part_length)), get_or-drop from steps i 0) (can.0 (from + i) (omega (arith, part_length))),
-    can.1,
-  )
-
   -- where none of its entries repeats another it is cut at its end
   pub cut_nowhere : FirstRepeat part None → CutAt part (to - from)
   cut_nowhere none = let whole : CutAt part (length part) = record { within = omega arith; here = λ l. absurd (omega arith); earlier = none } in rw part_length at whole
@@ -66,9 +58,6 @@ pub record CutTo (firsts before steps nexts : List ℕ) (link : ℕ) : Type 0 wh
   pub long : length nexts ≡ length before
   pub cut : (i : ℕ) → i < link → CutOf firsts before steps nexts i
   pub ahead : (i : ℕ) → link ≤ i → get_or nexts i 0 ≡ get_or before i 0
-
-pub cut_to_start : {firsts nexts steps : List ℕ} → CutTo firsts nexts steps nexts 0
-cut_to_start = record { long = refl; cut = below_none _; ahead = λ i l. refl }
 
 module _ {firsts before steps nexts : List ℕ} {link : ℕ} (w : CutTo firsts before steps nexts link) where
   module _ (more : link < length nexts) where
@@ -134,13 +123,7 @@ pub record WalkedTo (hops before cuts places : List ℕ) (i : ℕ) : Type 0 wher
   pub short : (link : ℕ) → get_or places link 0 ≤ get_or cuts link 0
   pub earlier : (j : ℕ) → j < i → place_of hops before j < get_or cuts (get_or hops j 0) 0
 
-pub walked_start : {hops firsts cuts : List ℕ} → ((link : ℕ) → get_or firsts link 0 ≤ get_or cuts link 0) → WalkedTo hops firsts cuts firsts 0
-walked_start rises = record { near = omega arith; long = refl; moved = λ link. omega arith; short = rises; earlier = below_none _ }
-
 module _ {hops before cuts places : List ℕ} {i : ℕ} (w : WalkedTo hops before cuts places i) where
-  pub walked_done : length hops ≤ i → FirstBeyond hops before cuts None
-  walked_done all j l = w.earlier j (omega arith)
-
   module _ {link : ℕ} (more : i < length hops) (is_link : link ≡ get_or hops i 0) where
     its_place : place_of hops before i ≡ get_or places link 0
     unfolding place_of

@@ -7,7 +7,7 @@ use native.Mathlib.Decide.{dec_lt}
 use native.Mathlib.Nat.{not-suc-le-zero, le_of_suc-le-suc, eq-or-lt_of_le}
 use native.Mathlib.Numerals.{add-one}
 use native.Mathlib.Omega.{arith, by_contra}
-use lib.ListN.{length, get_or, set, take, drop, length-set, drop_of_length-le}
+use lib.ListN.{length, get_or, set, take, drop, length-set}
 use lib.Seq.{get_or-set_same, get_or-set_other, take_all, take-take}
 use borrow.Author.Tests.{eq-eqb}
 use Rattle.counting.specs.Count.{occurs}
@@ -46,9 +46,6 @@ pub record Counted (hops before loads : List ℕ) (i : ℕ) : Type 0 where
   pub sum : total loads ≡ total before + i
   pub each : (link : ℕ) → get_or loads link 0 + occurs link (drop i hops) ≡ get_or before link 0 + occurs link hops
 
-pub counted_start : (hops before : List ℕ) → Counted hops before before 0
-counted_start hops before = record { near = omega arith; long = refl; sum = omega arith; each = λ link. refl }
-
 module _ {hops before loads : List ℕ} {i : ℕ} (w : Counted hops before loads i) where
   pub counted_le : (link : ℕ) → get_or loads link 0 ≤ total before + i
   counted_le link = omega (arith, le_total loads link)
@@ -61,10 +58,6 @@ module _ {hops before loads : List ℕ} {i : ℕ} (w : Counted hops before loads
     sum = omega (arith, one-more-total loads link l);
     each = λ other. omega (arith, one-more_at loads link other l, rw (from_place hops i, ← e) at (w.each other));
   }
-
-  pub counted_done : length hops ≤ i
-      → ((link : ℕ) → get_or loads link 0 ≡ get_or before link 0 + occurs link hops) × (total loads ≡ total before + length hops)
-  counted_done h = (λ link. omega (arith, rw (drop_of_length-le hops {i = i} h) at (w.each link)), omega arith)
 
 -- ---- the rooms, before that of the link is opened
 
@@ -92,16 +85,6 @@ pub record Opened (hops : ℕ) (loads firsts nexts : List ℕ) (link place : ℕ
   pub here : place ≡ total (take link loads)
   pub first : Begun loads (λ i. 0) firsts link
   pub next : Begun loads (λ i. get_or loads i 0) nexts link
-
-pub opened_start : {hops : ℕ} {loads firsts : List ℕ} → total loads ≡ hops → length firsts ≡ length loads → ((i : ℕ) → get_or firsts i 0 ≡ 0)
-    → Opened hops loads firsts loads 0 0
-opened_start e l z = record {
-  whole = e;
-  near = omega arith;
-  here = refl;
-  first = record { long = l; begun = λ i h. absurd (not-suc-le-zero h); ahead = λ i h. z i };
-  next = record { long = refl; begun = λ i h. absurd (not-suc-le-zero h); ahead = λ i h. refl };
-}
 
 module _ {hops link place : ℕ} {loads firsts nexts : List ℕ} (w : Opened hops loads firsts nexts link place) where
   -- where some hops have no place yet, there is a link left
@@ -165,12 +148,6 @@ module _ (hops before loads : List ℕ) (none : (link : ℕ) → get_or before l
     (counted : (link : ℕ) → get_or loads link 0 ≡ get_or before link 0 + occurs link hops) where
   load : (link : ℕ) → get_or loads link 0 ≡ occurs link hops
   load link = omega (arith, none link, counted link)
-
-  pub rooms_for_hops : {firsts : List ℕ} → Rooms (λ link. get_or loads link 0) firsts (length hops) → Rooms (λ link. occurs link hops) firsts (length hops)
-  rooms_for_hops opened = record {
-    within = λ link. omega (arith, opened.within link, load link);
-    apart = λ link other differ. rw (← load link, ← load other) (opened.apart link other differ);
-  }
 
   -- where no link has a load from some number on, every hop is on one below it
   pub hops_below_room : (links : ℕ) → ((link : ℕ) → links ≤ link → get_or loads link 0 ≡ 0) → Below hops links

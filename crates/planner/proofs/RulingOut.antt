@@ -1,10 +1,10 @@
 -- Ruling starts out along a path: what the marks come to.
-use mathlib.Core.Path.{◌≡◌, refl, sym, ◌∙◌}
+use mathlib.Core.Path.{◌≡◌, sym, ◌∙◌}
 use mathlib.Core.Bool.{◌||◌, or-false, or_assoc}
 use mathlib.Core.List.{List}
-use Prim.Native.Nat.{ℕ, ◌+◌, ◌-◌, ◌*◌, ◌≤◌, ◌<◌}
+use Prim.Native.Nat.{ℕ, ◌+◌, ◌*◌, ◌≤◌, ◌<◌}
 use native.Mathlib.Omega.{arith}
-use lib.ListN.{length, get_or, take, drop, drop_of_length-le}
+use lib.ListN.{length, get_or, drop, drop_of_length-le}
 use Rattle.counting.proofs.Places.{from_place}
 use Rattle.rules.specs.Travel.{one_step}
 use Rattle.rules.specs.Claims.{link_claims}
@@ -20,9 +20,6 @@ pub record MarkedSoFar (path firsts nexts steps words₀ words : List ℕ) (hop 
       → (marked words s || ruled_out firsts nexts steps (link_claims one_step offset (drop hop path)) s)
       ≡ (marked words₀ s || ruled_out firsts nexts steps (path_claims path) s)
 
-pub marked_start : {path firsts nexts steps words : List ℕ} → MarkedSoFar path firsts nexts steps words words 0 0
-marked_start = record { words_length = refl; marks = λ s within. refl }
-
 module _ {path firsts nexts steps words₀ words : List ℕ} {hop offset : ℕ} (so_far : MarkedSoFar path firsts nexts steps words₀ words hop offset) where
   module _ (more : hop < length path) where
     abbrev l : ℕ
@@ -33,14 +30,13 @@ module _ {path firsts nexts steps words₀ words : List ℕ} {hop offset : ℕ} 
     unfolding ruled_out link_claims
     ruled_out_next s = rw (from_place path hop more)
 
-    pub marked_turn : {from to : ℕ} → from ≡ get_or firsts l 0 → to ≡ get_or nexts l 0
-        → MarkedSoFar path firsts nexts steps words₀ (with_starts offset (take (to - from) (drop from steps)) words) (hop + 1) (offset + one_step l)
-    unfolding entered steps_on
-    marked_turn {from} {to} is_first is_next =
-        let part = take (to - from) (drop from steps) in record {
+    pub marked_turn : MarkedSoFar path firsts nexts steps words₀ (with_starts offset (steps_on firsts nexts steps l) words) (hop + 1) (offset + one_step l)
+    unfolding entered
+    marked_turn =
+        let part = steps_on firsts nexts steps l in record {
           words_length = length-with_starts offset part words ∙ so_far.words_length;
           marks = λ s within.
-              rw (marked-with_starts offset part words s (omega (arith, so_far.words_length)), is_first, is_next, or_assoc)
+              rw (marked-with_starts offset part words s (omega (arith, so_far.words_length)), or_assoc)
               (rw (ruled_out_next s) at (so_far.marks s within));
         }
 

@@ -17,7 +17,7 @@ use Rattle.counting.specs.Count.{any_of, among}
 use Rattle.counting.proofs.Tests.{any_append, or_false_left, or_false_right}
 use Rattle.counting.proofs.Places.{from_place, zero_at}
 use Rattle.std.specs.Int.{bit_at}
-use Rattle.std.specs.Prelude.{Some, None}
+use Rattle.std.specs.Prelude.{Some}
 use Rattle.marks.specs.Marks.{marked, unmarked, with_mark, wiped}
 use Rattle.marks.proofs.Marking.{none_marked, length-unmarked, length-with_mark, marked-with_mark, marked_in_hand, mark_in_hand}
 use Rattle.planner.specs.Cuts.{repeats, FirstRepeat, MarksWithin, Markable}
@@ -51,10 +51,6 @@ unfolding with_mark
 other_word words n at e = get_or-set_other words (n / 64) at _ 0 (λ q. eqb-false (n / 64) at e (sym q))
 
 module _ {steps before words : List ℕ} {i : ℕ} (w : MarkedTo steps before words i) where
-  -- at the end none repeats
-  pub marked_to_done : length steps ≤ i → FirstRepeat steps None
-  marked_to_done all j l = w.new j (omega arith)
-
   module _ (can : Markable steps before) (more : i < length steps) {step : ℕ} (is_step : step ≡ get_or steps i 0) where
     has_bit : step < 64 * length words
     has_bit = omega (arith, can.0 i more, w.long)
@@ -107,9 +103,6 @@ module _ {steps before : List ℕ} (words : List ℕ) (at bits : ℕ) {i : ℕ} 
 pub record WipedTo (steps before words : List ℕ) (i : ℕ) : Type 0 where
   pub long : length words ≡ length before
   pub within : MarksWithin (drop i steps) words
-
-pub wiped_to_start : {steps words : List ℕ} → MarksWithin steps words → WipedTo steps words words 0
-wiped_to_start only = record { long = refl; within = only }
 
 length-wiped : (words : List ℕ) (n : ℕ) → length (wiped words n) ≡ length words
 unfolding wiped

@@ -1,15 +1,19 @@
 // Entry steps by link: those of link l stand side by side among the steps, from firsts[l] to nexts[l]. So a packet's pass over those
 // that stand goes along its own links, and meets nobody else.
-ghost use Rattle.std.specs.Prelude.{◌≡◌, ℕ, ◌+◌, ◌*◌, ◌≤◌, ◌<◌, length, get_or};
+ghost use Rattle.std.specs.Prelude.{◌≡◌, List, ℕ, ◌+◌, ◌*◌, ◌≤◌, ◌<◌, length, get_or};
 ghost use Rattle.counting.specs.Count.{occurs};
+ghost use Rattle.rules.specs.Sizes.{links_most, hops_most};
 ghost use Rattle.rules.specs.Travel.{one_step};
 ghost use Rattle.rules.specs.Claims.{place};
 ghost use Rattle.marks.specs.Marks.{numbers_most};
 ghost use Rattle.planner.specs.PacketsInLists.{path_claims};
-ghost use Rattle.planner.specs.Entries.{widest, Below, Searchable, MarksAdded, FoundAmong, total, Rooms, Enterable};
+ghost use Rattle.planner.specs.Entries.{widest, steps_on, Below, Parts, OnLinks, Searchable, MarksAdded, FoundAmong, total, Rooms, Enterable};
+ghost use Rattle.planner.specs.Again.{FirstAgain, InOrder};
+ghost use Rattle.planner.specs.Cuts.{Cuttable};
 ghost use Rattle.planner.specs.EntriesAdded.{claim_steps, EntriesAdded};
 
-use job::{Hop, Step};
+use crate::repeats::first_again;
+use job::{Hop, Job, Step};
 
 // Adds to each link's load how often it stands among the hops.
 fn count(hops: &[u16], loads: &mut [u16])
@@ -45,19 +49,6 @@ fn open(places: usize, firsts: &mut [u16], nexts: &mut [u16]) -> usize
     link
 }
 
-// Makes room for the entries of all hops: of each link, as often as it stands among them. At the call both lists are 0 throughout; nobody
-// has entered a room yet. The answer is how many links have one: every hop is on one of them.
-pub(crate) fn make_room(hops: &[u16], firsts: &mut [u16], nexts: &mut [u16]) -> usize
-    requires { Below hops.now (length nexts.old) × (length hops.now ≤ widest) × (length firsts.old ≡ length nexts.old)
-        × ((link : ℕ) → get_or firsts.old link 0 ≡ 0) × ((link : ℕ) → get_or nexts.old link 0 ≡ 0) }
-    ensures rooms { Rooms (λ link. occurs link hops.now) firsts.new (length hops.now) }
-    ensures empty { (link : ℕ) → get_or nexts.new link 0 ≡ get_or firsts.new link 0 }
-    ensures links { Below hops.now result × (result ≤ length nexts.old) }
-{
-    count(hops, &mut nexts[..]);
-    open(hops.len(), firsts, nexts)
-}
-
 // How long after its start a packet enters the link that comes after this one.
 fn offset_after(offset: u16, link: u16) -> u16
     requires { offset < widest }
@@ -66,50 +57,111 @@ fn offset_after(offset: u16, link: u16) -> u16
     offset + 1
 }
 
-// Marks each start with which a packet on this path would enter a link in a step in which it is entered.
-fn rule_out(path: &[u16], firsts: &[u16], nexts: &[u16], steps: &[u16], words: &mut [u64])
-    requires { Searchable path.now firsts.now nexts.now (length steps.now) }
-    ensures { MarksAdded path.now firsts.now nexts.now steps.now words.old words.new }
-{
-    let mut offset = 0;
-    for &link in path {
-        let from = usize::from(firsts[usize::from(link)]);
-        let to = usize::from(nexts[usize::from(link)]);
-        marks::mark_starts(&steps[from..to], usize::from(offset), words);
-        offset = offset_after(offset, link);
+// The entries of all links: a room for each, from where its first entry stands to where its next will, over the steps.
+#[derive(Drop)]
+pub(crate) struct Entries {
+    firsts: [u16; Job::LINKS],
+    nexts: [u16; Job::LINKS],
+    steps: [u16; Job::HOPS],
+    ghost firsts_length: { length firsts ≡ links_most },
+    ghost nexts_length: { length nexts ≡ links_most },
+    ghost steps_length: { length steps ≡ hops_most },
+    ghost steps_fit: { (i : ℕ) → get_or steps i 0 ≤ widest },
+}
+
+impl Entries {
+    // Nobody has a room yet.
+    pub(crate) fn empty() -> Entries
+        ensures { ((link : ℕ) → get_or result.firsts link 0 ≡ 0) × ((link : ℕ) → get_or result.nexts link 0 ≡ 0) }
+    {
+        Entries {
+            firsts: [0; Job::LINKS],
+            nexts: [0; Job::LINKS],
+            steps: [0; Job::HOPS],
+        }
     }
-}
 
-// The first step at which a packet on this path conflicts with none of those that stand. It is found if the words have a bit for it; what
-// stood in them is gone.
-pub(crate) fn search(
-    path: &[u16],
-    firsts: &[u16],
-    nexts: &[u16],
-    steps: &[u16],
-    words: &mut [u64],
-) -> usize
-    requires { Searchable path.now firsts.now nexts.now (length steps.now) × (64 * length words.old ≤ numbers_most) }
-    ensures { FoundAmong path.now firsts.now nexts.now steps.now (length words.old) result }
-{
-    marks::clear(words);
-    rule_out(path, firsts, nexts, steps, words);
-    marks::first_unmarked(words)
-}
+    // Makes room for the entries of all hops: of each link, as often as it stands among them. At the call both lists are 0 throughout; nobody
+    // has entered a room yet. The answer is how many links have one: every hop is on one of them.
+    pub(crate) fn make_room(&mut self, hops: &[u16]) -> usize
+        requires { Below hops.now links_most × (length hops.now ≤ widest)
+            × ((link : ℕ) → get_or self.old.firsts link 0 ≡ 0) × ((link : ℕ) → get_or self.old.nexts link 0 ≡ 0) }
+        ensures rooms { Rooms (λ link. occurs link hops.now) self.new.firsts (length hops.now) }
+        ensures empty { (link : ℕ) → get_or self.new.nexts link 0 ≡ get_or self.new.firsts link 0 }
+        ensures links { OnLinks result hops.now }
+    {
+        count(hops, &mut self.nexts);
+        open(hops.len(), &mut self.firsts, &mut self.nexts)
+    }
 
-// Enters the links of a path, the first of them in the step of the start.
-pub(crate) fn enter(path: &[u16], start: u16, nexts: &mut [u16], steps: &mut [u16])
-    requires { Enterable path.now start nexts.old (length steps.old) }
-    ensures by_index { (link : ℕ) → get_or nexts.new link 0 ≡ get_or nexts.old link 0 + occurs link path.now }
-    ensures entries { EntriesAdded path.now (claim_steps (place start (path_claims path.now))) nexts.old steps.old
-        nexts.new steps.new }
-{
-    let mut offset = 0;
-    for &link in path {
-        let at = nexts[usize::from(link)];
-        let step = Step::of(start, Hop(offset));
-        steps[usize::from(at)] = step.0 as u16;
-        nexts[usize::from(link)] = at + 1;
-        offset = offset_after(offset, link);
+    // The steps in which the link is entered.
+    fn steps_on(&self, link: u16) -> &[u16]
+        requires { (link < links_most) × Parts self.now.firsts self.now.nexts (length self.now.steps) }
+        ensures { result.now ≡ steps_on self.now.firsts self.now.nexts self.now.steps link }
+    {
+        let from = usize::from(self.firsts[usize::from(link)]);
+        let to = usize::from(self.nexts[usize::from(link)]);
+        &self.steps[from..to]
+    }
+
+    // Marks each start with which a packet on this path would enter a link in a step in which it is entered.
+    fn rule_out(&self, path: &[u16], words: &mut [u64])
+        requires { Searchable path.now self.now.firsts self.now.nexts (length self.now.steps) }
+        ensures { MarksAdded path.now self.now.firsts self.now.nexts self.now.steps words.old words.new }
+    {
+        let mut offset = 0;
+        for &link in path {
+            marks::mark_starts(self.steps_on(link), usize::from(offset), words);
+            offset = offset_after(offset, link);
+        }
+    }
+
+    // The first step at which a packet on this path conflicts with none of those that stand. It is found if the words have a bit for it; what
+    // stood in them is gone.
+    pub(crate) fn search(&self, path: &[u16], words: &mut [u64]) -> usize
+        requires { Searchable path.now self.now.firsts self.now.nexts (length self.now.steps) × (64 * length words.old ≤ numbers_most) }
+        ensures { FoundAmong path.now self.now.firsts self.now.nexts self.now.steps (length words.old) result }
+    {
+        marks::clear(words);
+        self.rule_out(path, words);
+        marks::first_unmarked(words)
+    }
+
+    // Enters the links of a path, the first of them in the step of the start.
+    pub(crate) fn enter(&mut self, path: &[u16], start: u16)
+        requires { Enterable path.now start self.old.nexts (length self.old.steps) }
+        ensures by_index { (link : ℕ) → get_or self.new.nexts link 0 ≡ get_or self.old.nexts link 0 + occurs link path.now }
+        ensures entries { EntriesAdded path.now (claim_steps (place start (path_claims path.now))) self.old.nexts self.old.steps
+            self.new.nexts self.new.steps }
+        ensures rooms { self.new.firsts ≡ self.old.firsts }
+    {
+        let mut offset = 0;
+        for &link in path {
+            let at = self.nexts[usize::from(link)];
+            let step = Step::of(start, Hop(offset));
+            self.steps[usize::from(at)] = step.0 as u16;
+            self.nexts[usize::from(link)] = at + 1;
+            offset = offset_after(offset, link);
+        }
+    }
+
+    // The first hop, in list order, that enters its link in a step in which a hop before it does, if one does.
+    pub(crate) fn first_again(
+        &mut self,
+        links: usize,
+        hops: &[u16],
+        words: &mut [u64],
+    ) -> Option<usize>
+        requires { Below hops.now links × Cuttable links self.old.firsts self.old.nexts self.old.steps words.old }
+        ensures { (all : List ℕ) → InOrder hops.now all self.old.firsts self.old.nexts self.old.steps → FirstAgain hops.now all result }
+    {
+        first_again(
+            links,
+            hops,
+            &mut self.firsts,
+            &mut self.nexts,
+            &self.steps,
+            words,
+        )
     }
 }

@@ -18,7 +18,7 @@ mod paths;
 mod repeats;
 mod started;
 
-use entries::{enter, make_room, search};
+use entries::Entries;
 use job::{Job, JobLists, Refusal, Step};
 use paths::Paths;
 use started::Started;
@@ -39,25 +39,18 @@ pub fn enters(path: &[u16], start: u16, link: u16, step: Step) -> bool
 }
 
 // Starts one packet after the other, over the first places: each searches among the entries of those before it and then adds its own.
-fn start_each(
-    paths: &Paths,
-    starts: &mut [u16],
-    firsts: &[u16],
-    nexts: &mut [u16],
-    steps: &mut [u16],
-    words: &mut [u64],
-)
+fn start_each(paths: &Paths, starts: &mut [u16], entries: &mut Entries, words: &mut [u64])
     requires { (length paths.now.stops.now ≤ length starts.old)
-        × EntriesBefore paths.now.stops.now paths.now.hops.now starts.old 0 firsts.now nexts.old steps.old × (hops_most < 64 * length words.old) }
+        × EntriesBefore paths.now.stops.now paths.now.hops.now starts.old 0 entries.old.firsts entries.old.nexts entries.old.steps × (hops_most < 64 * length words.old) }
     ensures { starts.new ≡ greedy_starts paths.now.stops.now paths.now.hops.now ++ drop (length paths.now.stops.now) starts.old }
 {
     for k in 0..paths.stops.len() {
         let path = paths.path(k);
         // no start lies further than there are hops before it
         let enough = paths.begin(k) / 64 + 1;
-        let start = search(path, firsts, nexts, steps, &mut words[0..enough]) as u16;
+        let start = entries.search(path, &mut words[0..enough]) as u16;
         starts[k] = start;
-        enter(path, start, nexts, steps);
+        entries.enter(path, start);
     }
 }
 
@@ -67,12 +60,10 @@ pub(crate) fn fill(paths: &Paths, starts: &mut [u16])
     requires { length paths.now.stops.now ≤ length starts.old }
     ensures { starts.new ≡ greedy_starts paths.now.stops.now paths.now.hops.now ++ drop (length paths.now.stops.now) starts.old }
 {
-    let mut firsts = [0u16; Job::LINKS];
-    let mut nexts = [0u16; Job::LINKS];
-    let mut steps = [0u16; Job::HOPS];
+    let mut entries = Entries::empty();
     let mut words = [0u64; WORDS];
-    make_room(paths.hops, &mut firsts, &mut nexts);
-    start_each(paths, starts, &firsts, &mut nexts, &mut steps, &mut words);
+    entries.make_room(paths.hops);
+    start_each(paths, starts, &mut entries, &mut words);
 }
 
 // The difference of two entry steps, where both packets enter. Document 01 names this form: the steps as i32, one less the other.

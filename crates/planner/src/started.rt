@@ -12,11 +12,10 @@ ghost use Rattle.planner.specs.Again.{FirstAgain};
 ghost use Rattle.planner.specs.EntriesAdded.{all_steps, EntriesAdded};
 ghost use Rattle.marks.specs.Marks.{unmarked};
 
-use crate::entries::{enter, make_room};
+use crate::entries::Entries;
 use crate::paths::Paths;
-use crate::repeats::first_again;
 use crate::{Clash, enters};
-use job::{Hop, Job, Step};
+use job::{Hop, Step};
 
 // Words for the steps that are marked: an entry step has 16 bits.
 const STEP_WORDS: usize = 65535 / 64 + 1;
@@ -83,14 +82,15 @@ impl Started<'_> {
     }
 
     // Enters every packet at its start, one after the other.
-    fn enter_each(&self, nexts: &mut [u16], steps: &mut [u16])
-        requires { Enterable self.now.paths.hops.now start_most nexts.old (length steps.old) }
-        ensures by_index { (link : ℕ) → get_or nexts.new link 0 ≡ get_or nexts.old link 0 + occurs link self.now.paths.hops.now }
+    fn enter_each(&self, entries: &mut Entries)
+        requires { Enterable self.now.paths.hops.now start_most entries.old.nexts (length entries.old.steps) }
+        ensures by_index { (link : ℕ) → get_or entries.new.nexts link 0 ≡ get_or entries.old.nexts link 0 + occurs link self.now.paths.hops.now }
         ensures entries { EntriesAdded self.now.paths.hops.now (all_steps (packets_in self.now))
-            nexts.old steps.old nexts.new steps.new }
+            entries.old.nexts entries.old.steps entries.new.nexts entries.new.steps }
+        ensures rooms { entries.new.firsts ≡ entries.old.firsts }
     {
         for (packet, &start) in self.starts.iter().enumerate() {
-            enter(self.paths.path(packet), start, nexts, steps);
+            entries.enter(self.paths.path(packet), start);
         }
     }
 
@@ -99,29 +99,25 @@ impl Started<'_> {
     fn conflict_among(
         &self,
         links: usize,
-        firsts: &mut [u16],
-        nexts: &mut [u16],
-        steps: &mut [u16],
+        entries: &mut Entries,
         words: &mut [u64],
     ) -> Option<usize>
-        requires { EntriesBefore self.now.paths.stops.now self.now.paths.hops.now self.now.starts.now 0 firsts.old nexts.old steps.old
+        requires { EntriesBefore self.now.paths.stops.now self.now.paths.hops.now self.now.starts.now 0 entries.old.firsts entries.old.nexts entries.old.steps
             × OnLinks links self.now.paths.hops.now × (widest < 64 * length words.old) × (words.old ≡ unmarked (length words.old)) }
         ensures { FirstAgain self.now.paths.hops.now (all_steps (packets_in self.now)) result }
     {
-        self.enter_each(nexts, steps);
-        first_again(links, self.paths.hops, firsts, nexts, steps, words)
+        self.enter_each(entries);
+        entries.first_again(links, self.paths.hops, words)
     }
 
     // The same, with rooms of its own: nothing is allocated, so they are arrays of the greatest sizes.
     fn first_conflict(&self) -> Option<usize>
         ensures { FirstAgain self.now.paths.hops.now (all_steps (packets_in self.now)) result }
     {
-        let mut firsts = [0u16; Job::LINKS];
-        let mut nexts = [0u16; Job::LINKS];
-        let mut steps = [0u16; Job::HOPS];
+        let mut entries = Entries::empty();
         let mut words = [0u64; STEP_WORDS];
-        let links = make_room(self.paths.hops, &mut firsts, &mut nexts);
-        self.conflict_among(links, &mut firsts, &mut nexts, &mut steps, &mut words)
+        let links = entries.make_room(self.paths.hops);
+        self.conflict_among(links, &mut entries, &mut words)
     }
 
     // The clash of the lowest packet that conflicts with one listed before it.

@@ -1,5 +1,5 @@
 -- Each turn starts the next packet at the first free step; past the last all greedy starts are written.
-use Rattle.std.proofs.Common.{◌≡◌, ◌+◌, ◌-◌, ◌/◌, length, take, ◌∙◌, length-take, arith}
+use Rattle.std.proofs.Common.{◌≡◌, ◌+◌, ◌-◌, ◌/◌, length, take, ◌∙◌, sym, length-take, arith}
 use Rattle.planner.specs.PacketsInLists.{begin_from}
 use Rattle.planner.proofs.Filling.{start_at, one_more, all_written}
 use Rattle.planner.proofs.Searching.{start-le_begin}
@@ -45,8 +45,12 @@ enter-requires c =
 pub loop-k-preserved : goal.loop-k-preserved
 loop-k-preserved c = (
   one_more _ _ _ _ _ (omega arith) c.requires.0 c.loop-k.invariant.0 _ (found (goal.at.loop-k-preserved c).After-search-start),
-  entries_next _ _ _ _ _ (omega arith) (omega (arith, c.requires.0, c.loop-k.auto.starts)) c.args.paths.now.simple _ _ _ c.loop-k.invariant.1
-      _ c.path-path.ensures _ _ c.enter.auto.nexts c.enter.auto.steps c.enter.ensures.by_index c.enter.ensures.entries,
+  let before = c.loop-k.entries in
+      let after = c.enter.new.self in
+      rw c.enter.ensures.rooms
+      (entries_next _ _ _ _ _ (omega arith) (omega (arith, c.requires.0, c.loop-k.auto.starts)) c.args.paths.now.simple _ _ _ c.loop-k.invariant.1
+      _ c.path-path.ensures _ _ (after.nexts_length ∙ sym before.nexts_length) (after.steps_length ∙ sym before.steps_length)
+      c.enter.ensures.by_index c.enter.ensures.entries),
 )
 
 pub returns : goal.returns

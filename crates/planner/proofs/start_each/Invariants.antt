@@ -7,4 +7,4 @@ use Rattle.planner.proofs.start_each.Given as goal
 abbrev pub invariant-loop-k : goal.invariant-loop-k
 invariant-loop-k l =
     (l.starts ≡ take l.k (greedy_starts l.paths.stops.now l.paths.hops.now) ++ drop l.k l.initial.starts)
-    × EntriesBefore l.paths.stops.now l.paths.hops.now l.starts l.k l.firsts l.nexts l.steps
+    × EntriesBefore l.paths.stops.now l.paths.hops.now l.starts l.k l.entries.firsts l.entries.nexts l.entries.steps

@@ -1,6 +1,6 @@
 -- The starts that are ruled out are marked, and the first without a mark is taken.
 use Rattle.planner.proofs.StartsFound.{first_free-found}
-use Rattle.planner.proofs.entries.search.Goals as goal
+use Rattle.planner.proofs.entries.Entries.search.Goals as goal
 
 pub returns : goal.returns
 returns c =
