@@ -102,15 +102,6 @@ pub record EnteredSoFar (links all nexts₀ steps₀ rest later nexts steps : Li
   pub entries : (room : ℕ → ℕ) (firsts : List ℕ) → Rooms room firsts (length steps₀) → RoomFor links room firsts nexts₀ → (link : ℕ)
       → steps_on firsts nexts steps link ++ steps_at link rest later ≡ steps_on firsts nexts₀ steps₀ link ++ steps_at link links all
 
-pub entered-start : {links all nexts steps : List ℕ} → EnteredSoFar links all nexts steps links all nexts steps
-entered-start = record {
-  nexts_length = refl;
-  steps_length = refl;
-  grows = λ link. omega arith;
-  counts = λ link. refl;
-  entries = λ room firsts rooms free link. refl;
-}
-
 module _ {links all nexts₀ steps₀ nexts steps : List ℕ} where
   -- the front of what is left is entered
   pub entered_turn : (front now_steps rest later : List ℕ) {nexts' steps' : List ℕ} → EnteredSoFar links all nexts₀ steps₀ (front ++ rest) (now_steps ++ later) nexts steps
@@ -149,9 +140,6 @@ module _ {path nexts₀ steps₀ nexts steps : List ℕ} {start hop offset : ℕ
     abbrev l : ℕ
     l = get_or path hop 0
 
-    pub next_within : get_or nexts₀ l 0 + occurs l path ≤ length steps₀ → get_or nexts l 0 < length steps
-    next_within fits = omega (arith, w.so_far.steps_length, rw (from_place path hop more, eq-eqb l l refl) at (w.so_far.counts l))
-
     pub path_turn : l < length nexts
         → EnteredToHop path nexts₀ steps₀ (nexts_after nexts l) (steps_after nexts steps l (start + offset)) start (hop + 1) (offset + one_step l)
     unfolding claim_steps link_claims
@@ -166,6 +154,3 @@ module _ {path nexts₀ steps₀ nexts steps : List ℕ} {start hop offset : ℕ
 
     pub path_added : EntriesAdded path (claim_steps (place start (path_claims path))) nexts₀ steps₀ nexts steps
     path_added = entered_done none_left
-
-    pub path_counted : (link : ℕ) → get_or nexts link 0 ≡ get_or nexts₀ link 0 + occurs link path
-    path_counted = nexts_done none_left

@@ -81,8 +81,8 @@ impl Entries {
         }
     }
 
-    // Makes room for the entries of all hops: of each link, as often as it stands among them. At the call both lists are 0 throughout; nobody
-    // has entered a room yet. The answer is how many links have one: every hop is on one of them.
+    // Makes room for the entries of all hops: of each link, as often as it stands among them. At the call both lists are 0 throughout;
+    // nobody has entered a room yet. The answer is how many links have one: every hop is on one of them.
     pub(crate) fn make_room(&mut self, hops: &[u16]) -> usize
         requires { Below hops.now links_most × (length hops.now ≤ widest)
             × ((link : ℕ) → get_or self.old.firsts link 0 ≡ 0) × ((link : ℕ) → get_or self.old.nexts link 0 ≡ 0) }
@@ -116,8 +116,8 @@ impl Entries {
         }
     }
 
-    // The first step at which a packet on this path conflicts with none of those that stand. It is found if the words have a bit for it; what
-    // stood in them is gone.
+    // The first step at which a packet on this path conflicts with none of those that stand. It is found if the words have a bit for it;
+    // what stood in them is gone.
     pub(crate) fn search(&self, path: &[u16], words: &mut [u64]) -> usize
         requires { Searchable path.now self.now.firsts self.now.nexts (length self.now.steps) × (64 * length words.old ≤ numbers_most) }
         ensures { FoundAmong path.now self.now.firsts self.now.nexts self.now.steps (length words.old) result }

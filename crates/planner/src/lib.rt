@@ -41,7 +41,8 @@ pub fn enters(path: &[u16], start: u16, link: u16, step: Step) -> bool
 // Starts one packet after the other, over the first places: each searches among the entries of those before it and then adds its own.
 fn start_each(paths: &Paths, starts: &mut [u16], entries: &mut Entries, words: &mut [u64])
     requires { (length paths.now.stops.now ≤ length starts.old)
-        × EntriesBefore paths.now.stops.now paths.now.hops.now starts.old 0 entries.old.firsts entries.old.nexts entries.old.steps × (hops_most < 64 * length words.old) }
+        × EntriesBefore paths.now.stops.now paths.now.hops.now starts.old 0 entries.old.firsts entries.old.nexts entries.old.steps
+        × (hops_most < 64 * length words.old) }
     ensures { starts.new ≡ greedy_starts paths.now.stops.now paths.now.hops.now ++ drop (length paths.now.stops.now) starts.old }
 {
     for k in 0..paths.stops.len() {

@@ -102,7 +102,8 @@ impl Started<'_> {
         entries: &mut Entries,
         words: &mut [u64],
     ) -> Option<usize>
-        requires { EntriesBefore self.now.paths.stops.now self.now.paths.hops.now self.now.starts.now 0 entries.old.firsts entries.old.nexts entries.old.steps
+        requires { EntriesBefore self.now.paths.stops.now self.now.paths.hops.now self.now.starts.now 0
+            entries.old.firsts entries.old.nexts entries.old.steps
             × OnLinks links self.now.paths.hops.now × (widest < 64 * length words.old) × (words.old ≡ unmarked (length words.old)) }
         ensures { FirstAgain self.now.paths.hops.now (all_steps (packets_in self.now)) result }
     {
