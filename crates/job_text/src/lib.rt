@@ -61,7 +61,8 @@ impl LentLists<'_> {
             && self.hops.len() >= Job::HOPS
     }
 
-    // The verdict on one more packet, whose path stands behind the hops so far.
+    // The verdict on one more packet, whose path stands behind the hops so far. It is called, to leave the registers to the loop over lines.
+    #[inline(never)]
     fn packet_verdict(&self, job: Job, source: u16, count: usize, line: u32) -> Result<(), Refusal>
         requires within { Within job }
         requires room { Room (lists_in self.now) }
@@ -109,6 +110,7 @@ struct Found {
 }
 
 // N: one number behind the letter, which ends at this place.
+#[inline(always)]
 fn nodes_at(text: &[u8], at: usize) -> Option<Found>
     ensures { (hops : List ℕ) (from : ℕ) → ToldAs (said_behind letter_n text.now at) text.now at result hops from }
 {
@@ -126,6 +128,7 @@ fn nodes_at(text: &[u8], at: usize) -> Option<Found>
 }
 
 // L: two numbers.
+#[inline(always)]
 fn link_at(text: &[u8], at: usize) -> Option<Found>
     ensures { (hops : List ℕ) (place : ℕ) → ToldAs (said_behind letter_l text.now at) text.now at result hops place }
 {
@@ -147,6 +150,7 @@ fn link_at(text: &[u8], at: usize) -> Option<Found>
 }
 
 // P: a source, and a path that is copied into the hops from a place on.
+#[inline(always)]
 #[tactic(auto, using(crate::proofs::OneLine::stays))]
 fn packet_at(text: &[u8], at: usize, hops: &mut [u16], from: usize) -> Option<Found>
     ensures told { ToldAs (said_behind letter_p text.now at) text.now at result hops.new from }
@@ -166,7 +170,10 @@ fn packet_at(text: &[u8], at: usize, hops: &mut [u16], from: usize) -> Option<Fo
     })
 }
 
-// The line that begins at a place. A packet's path is copied into the hops from a place on, and those before it stay.
+// The line that begins at a place. A packet's path is copied into the hops from a place on, and those before it stay. It and the three
+// above become part of the loop over the lines, and that stands by itself: else None's zeros are made at each digit, and what the loop
+// needs at each byte is not kept in registers. Reading took a fifth longer on a text of links.
+#[inline(always)]
 fn line_at(text: &[u8], at: usize, hops: &mut [u16], from: usize) -> Option<Found>
     ensures told { ToldAs (said_at text.now at) text.now at result hops.new from }
     ensures before { take from hops.new ≡ take from hops.old }
@@ -178,6 +185,9 @@ fn line_at(text: &[u8], at: usize, hops: &mut [u16], from: usize) -> Option<Foun
         _ => None,
     }
 }
+
+// The counts and the lists of the job so far are two arguments, with what is known of them in each contract: a struct that held the lists
+// as `&mut` would owe in each that they are the same references, a clause for each that its ghost fields saved.
 
 // L: one more link.
 fn add_link(line: u32, job: Job, from: u16, to: u16, lists: &mut LentLists) -> Result<(), Refusal>
@@ -268,6 +278,7 @@ fn counted(job: Job, told: Line) -> Job
 }
 
 // The lines from a cursor on, which goes from line to line by `moved`: document 01 names this form.
+#[inline(never)]
 fn add_lines(text: &[u8], first: Lines, begun: Job, lists: &mut LentLists) -> Result<Job, Refusal>
     requires within { Within begun }
     requires room { Room (lists_in lists.old) }
