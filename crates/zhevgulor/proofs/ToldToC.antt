@@ -4,39 +4,27 @@ use mathlib.Core.List.{List, [], ◌∷◌, ◌++◌}
 use Prim.Native.Nat.{ℕ, ◌≤◌, ◌<◌}
 use native.Mathlib.Omega.{arith}
 use lib.ListN.{length, drop}
-use lib.IntN.{ℤ, pos, negsuc, nat_abs}
-use mir.Syntax.{w32}
-use mir.Val.{SFits, to_z, of_z}
-use mir.ValLaws.{to_z-of_z}
 use borrow.Author.Tests.{le-leb, lt-leb}
-use Rattle.std.specs.Prelude.{Option, None, Some, Result, Ok, Err, OnOk}
-use Rattle.std.specs.Result.{MatchResult, IsOkAnd}
+use Rattle.std.specs.Prelude.{Option, Result, Ok, Err}
 use Rattle.rules.specs.Network.{Job}
-use Rattle.rules.specs.Outcome.{Outcome, is, refused, fine, onward, Verdict as Ruled}
-use Rattle.rules.specs.Answers.{in_room, lent_after, planned, checked, led, plan_read_in}
+use Rattle.rules.specs.Outcome.{Outcome, is, refused, fine, onward}
+use Rattle.rules.specs.Answers.{in_room, lent_after, planned, checked, plan_read_in}
 use Rattle.rules.specs.CheckedTexts.{TextsChecked}
-use Rattle.rules.specs.Sizes.{packets_most, lead_most}
-use Rattle.rules.specs.Greedy.{greedy}
+use Rattle.rules.specs.Sizes.{packets_most}
 use Rattle.theorems.proofs.Verdicts.{refused_not_is, refused_for}
 use Rattle.theorems.proofs.Accepted.{tables-fine-iff}
-use Rattle.theorems.proofs.AnswersInARow.{planned-iff}
-use Rattle.theorems.proofs.PlanBackExact.{plan_read_in-iff}
 use Rattle.theorems.proofs.Demands.{starts_count}
-use Rattle.theorems.proofs.Started.{started_fine-iff, led_in_range}
 use Rattle.job.specs.declared.Refusal.{Refusal}
 use Rattle.job.specs.declared.Refusal.TheVariants.{ShortRoom}
-use Rattle.job.specs.Told.{number_place, refusal_of, verdict_of}
+use Rattle.job.specs.Told.{refusal_of}
 use Rattle.planner.specs.declared.Clash.{Clash}
-use Rattle.planner.specs.Told.{PlannedAs, checked_of, found_of, led_of}
+use Rattle.planner.specs.Told.{PlannedAs, found_of}
 use Rattle.planner.proofs.Obeys.{planned-greedy}
-use Rattle.job_text.specs.Told.{Lists, read_in, reading_of, ReadAs}
-use Rattle.job.specs.declared.Job.{Job as Counts}
 use Rattle.plan_text.specs.Told.{written_of, WrittenAs, ReadBackAs}
 use Rattle.plan_text.proofs.Obeys.{read_starts}
 use Rattle.zhevgulor.specs.declared.Answer.{Answer}
-use Rattle.zhevgulor.specs.declared.ReadAnswer.{ReadAnswer}
 use Rattle.zhevgulor.specs.declared.TextsAnswer.{TextsAnswer}
-use Rattle.zhevgulor.specs.Told.{answer_for, lead_for, read_for, LentAs, clash_numbers, checked_in, ReadFor, about_text, refused_text, clash_in, TextsFor}
+use Rattle.zhevgulor.specs.Told.{answer_for, LentAs, clash_numbers, checked_in, about_text, refused_text, clash_in, TextsFor}
 
 -- ---- what is told in two numbers
 
