@@ -3,14 +3,12 @@ use mathlib.Core.Path.{◌≡◌, refl, sym, ap, ◌∙◌}
 use mathlib.Core.Bool.{Bool, true, false, ◌||◌, or-false, or_assoc}
 use mathlib.Core.List.{List, [], ◌∷◌}
 use Prim.Native.Nat.{ℕ, zero, suc, ◌+◌, ◌-◌, ◌*◌, ◌/◌, ◌%◌, ◌^◌, ◌≤◌, ◌<◌, max}
-use native.Mathlib.Numerals.{add-one}
 use native.Mathlib.Decide.{dec_lt}
 use native.Mathlib.Omega.{arith}
 use lib.Bits.{bit_or}
 use lib.Dec.{eqb, ltb}
-use lib.ListN.{length, get_or, set, take, drop, length-set, length-take, length-replicate, replicate-append-replicate, get_or-eq_default}
-use lib.Pow.{shl_exact}
-use lib.Seq.{get_or-take, set_out, set-get_or, take-suc-set, get_or-set_same, get_or-set_other}
+use lib.ListN.{length, get_or, set, take, drop, length-set, length-take, length-replicate, get_or-eq_default}
+use lib.Seq.{get_or-take, set_out, set-get_or, get_or-set_same, get_or-set_other}
 use borrow.Author.Tests.{lt-ltb, le-ltb, ltb-true, ltb-false, eqb-true, eqb-false, eq-eqb, ne_eqb}
 use Rattle.counting.specs.Count.{bit, pick, among}
 use Rattle.counting.proofs.Tests.{same_of_iff}
@@ -44,10 +42,6 @@ none_beyond words n past = unmarked_in_zero words n (get_or-eq_default words 0 p
 pub length-unmarked : (n : ℕ) → length (unmarked n) ≡ n
 unfolding unmarked
 length-unmarked n = length-replicate {A = ℕ} n 0
-
-pub one-more_cleared : (words : List ℕ) (at : ℕ) → at < length words → take at words ≡ unmarked at → take (at + 1) (set words at 0) ≡ unmarked (at + 1)
-unfolding unmarked
-one-more_cleared words at l cleared = rw (add-one at, take-suc-set words at 0 l, cleared) (rw (add-one at) at (replicate-append-replicate {A = ℕ} at 1 0))
 
 -- ---- one mark more
 
@@ -91,10 +85,6 @@ marked-with_mark words n s h = go (eqb (s / 64) (n / 64)) refl
         let q : s / 64 ≡ n / 64 → ⊥ = eqb-false _ _ e in
         rw (get_or-set_other words (n / 64) (s / 64) word 0 q, ne_eqb n s (λ p. q (ap (λ (x : ℕ). x / 64) (sym p))), or-false)
 
--- the bit of a number, as the code shifts it
-pub bit_in_hand : (n : ℕ) → 1 * 2 ^ (n % 64) % 2 ^ 64 ≡ 2 ^ (n % 64)
-bit_in_hand n = shl_exact 1 (n % 64) 64 (omega arith) (omega arith) ∙ omega arith
-
 -- ---- a word in hand
 
 -- one that was just taken may be put back
@@ -103,14 +93,6 @@ word_taken words n is_at is_bits = rw (is_at, is_bits) (set-get_or words (n / 64
 
 module _ (words : List ℕ) (at bits : ℕ) where
   module _ (there : ℕ) where
-    -- the one that is wanted may be in hand
-    pub same_word : at ≡ there → (bits ≡ pick (eqb at there) bits (get_or words there 0)) × (words ≡ pick (eqb at there) words (set words at bits))
-    same_word e = rw (eq-eqb at there e) (refl, refl)
-
-    -- or another is
-    pub other_word : (at ≡ there → ⊥) → (get_or (set words at bits) there 0 ≡ pick (eqb at there) bits (get_or words there 0)) × (set words at bits ≡ pick (eqb at there) words (set words at bits))
-    other_word differ = rw (ne_eqb at there differ) (get_or-set_other words at there bits 0 (λ e. differ (sym e)), refl)
-
     -- with the word in hand put back the words are the same before and after
     pub word_changed : {words' : List ℕ} {at' bits' : ℕ} → at' ≡ there → bits' ≡ pick (eqb at there) bits (get_or words there 0) → words' ≡ pick (eqb at there) words (set words at bits)
         → set words' at' bits' ≡ set words at bits
