@@ -14,7 +14,8 @@ A group has blocks, parted by blank lines. A block is one mistake:
 A mistake in the body of a function has no `shows:` line: it must show there, and a group has at most one for each function. A mistake
 anywhere else, as in a constant, a contract or a definition, shows in whatever cites it: it names one function or theorem that must show
 it, and stands alone in its group. Constants that only bodies name may share a group, if what must show each names no other of them. So
-each mistake shows by itself: nothing but itself touches what must show it.
+each mistake shows by itself: nothing but itself touches what must show it. A constant that a clause of a contract names shows there:
+`# shows: FUNCTION clause CLAUSE`. No other line of a contract names it, and the clause names no other that the group changes.
 
 A mistake changes operands and leaves the code's form. Where it adds or takes away a step of a function with a proof written by hand,
 that proof could be refused after a harmless change too; such a mistake says in a `form:` line why it is one, for a reader to judge.
@@ -109,7 +110,7 @@ def functions(text, file):
         if start is not None:
             if body is None and (line == edge + '{' or line.endswith(' {') and not re.match(r' *(requires|ensures)\b', line)):
                 body = number
-            if line == edge + '}' or body == number and line.endswith('}'):
+            if line in (edge + '}', edge + '{}') or body == number and line.endswith('}'):
                 found.append(Function(name, file, start, body or number, number))
                 start = None
     return found
@@ -207,9 +208,15 @@ def bare(text):
     return re.sub(r'//.*', '', text)
 
 
-def constant(one, folder):
+def clause_of(code, clause):
+    """The line of a function that has the clause of that name."""
+    found = re.findall(rf'^ *ensures {clause} {{.*', code, re.M)
+    return found[0] if len(found) == 1 else ''
+
+
+def constant(one, folder, clause=''):
     """The constant of the source that a mistake changes, if it changes nothing else, and no signature, contract or other constant
-    names it: what it changes then shows in those functions alone whose bodies name it."""
+    names it, but that clause: what it changes then shows in those functions alone whose bodies name it, and in the clause."""
     named = set()
     for file, old, _ in one.pairs:
         text = open(f'{folder}/{file}', encoding='utf-8').read()
@@ -225,7 +232,7 @@ def constant(one, folder):
         for f in functions('\n'.join(lines), os.path.basename(path)):
             lines[f.body - 1:f.last] = [''] * (f.last - f.body + 1)
         outside += len(re.findall(rf'\b{name}\b', '\n'.join(lines)))
-    return name if outside == 1 else None
+    return name if outside - len(re.findall(rf'\b{name}\b', clause)) == 1 else None
 
 
 def theorem(name, folder):
@@ -258,29 +265,36 @@ def showers(found, folder):
         if not held and not one.shows:
             raise Trouble(f'{place(one)}: it changes no function\'s body: a line "# shows: NAME" has to say which function or theorem'
                           ' shows it')
+        name, _, clause = (held or one.shows).partition(' clause ')
+        told = clause_of(code.get(name, ''), clause)
+        if clause and not told:
+            raise Trouble(f'{place(one)}: {name} has no clause {clause}, which should show it')
         if not held:
-            changed[one.name] = constant(one, folder)
+            changed[one.name] = constant(one, folder, told)
             if not changed[one.name] and len(found) > 1:
                 raise Trouble(f'{place(one)}: what it changes shows wherever it is cited, so it has to stand alone in its group')
-        name = held or one.shows
         if name in code:
-            if not held and changed[one.name] and not re.search(rf'\b{changed[one.name]}\b', code[name]):
+            if not held and changed[one.name] and not re.search(rf'\b{changed[one.name]}\b', told or code[name]):
                 raise Trouble(f'{place(one)}: {name} does not name {changed[one.name]}, so it cannot show it')
-            show = name, None
+            show = name, None, clause
         else:
-            show = name, theorem(name, folder)
+            show = name, theorem(name, folder), ''
             if not show[1]:
                 raise Trouble(f'{place(one)}: no function or theorem {name}, which should show it')
         for other, theirs in shown.items():
             if theirs == show:
+                raise Trouble(f'{place(one)}: {other} of this group is in {name} too: each function shows one mistake')
+            if name == theirs[0] and not (clause and theirs[2]):
                 raise Trouble(f'{place(one)}: {other} of this group is in {name} too: each function shows one mistake')
             if name in code and theirs[0] in code and proof_of(name, folder) and proof_of(name, folder) == proof_of(theirs[0], folder):
                 raise Trouble(f'{place(one)}: {other} of this group shows in the same proof, and neither would show by itself')
         shown[one.name] = show
     for one in found:
         for other, its in changed.items():
-            if other != one.name and its and re.search(rf'\b{its}\b', code.get(shown[one.name][0], '')):
-                raise Trouble(f'{place(one)}: {shown[one.name][0]}, which must show it, names {its} too, which {other} changes')
+            name, _, clause = shown[one.name]
+            named = clause_of(code[name], clause) if clause else code.get(name, '')
+            if other != one.name and its and re.search(rf'\b{its}\b', named):
+                raise Trouble(f'{place(one)}: {name}, which must show it, names {its} too, which {other} changes')
     return shown
 
 
@@ -305,7 +319,9 @@ def said(log):
 
 def own(show, folder, texts, found):
     """Those errors that are in what must show a mistake. The texts are those of the files as edited, to whose lines the errors refer."""
-    name, file = show
+    name, file, clause = show
+    if clause:
+        found = [s for s in found if s.name.endswith(f'-clause-{clause}')]
     if file:
         return [s for s in found if s.file == file and s.name == name]
     function = crate_functions(folder, texts)[name]
