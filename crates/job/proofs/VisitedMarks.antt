@@ -1,17 +1,12 @@
 -- The marks of the nodes that a path has visited: of its source before the first hop, and of one node more with each hop.
-use mathlib.Core.Path.{◌≡◌}
-use mathlib.Core.Bool.{◌||◌, or-false}
-use mathlib.Core.List.{List, [], ◌∷◌, ◌++◌}
-use Prim.Native.Nat.{ℕ, ◌+◌, ◌*◌, ◌≤◌, ◌<◌}
+use Rattle.std.proofs.Common.{◌≡◌, ℕ, ◌+◌, ◌*◌, ◌≤◌, ◌<◌, ◌||◌, eqb, Some, List, [], ◌∷◌, ◌++◌, length, get_or, slice_get, take, replicate, add-one, arith}
+use Rattle.std.proofs.Math.Bool.{or-false}
+use Rattle.std.proofs.Math.Seq.{take-suc}
 use native.Mathlib.Decide.{dec_lt}
-use native.Mathlib.Omega.{arith}
 use borrow.Author.Tests.{ne_eqb, lt-ltb, le-ltb}
-use lib.Dec.{eqb}
-use lib.ListN.{length, get_or, take, replicate}
-use Rattle.counting.specs.Count.{among}
 use Rattle.counting.proofs.Tests.{any_append}
 use Rattle.rules.specs.Sizes.{nodes_most}
-use Rattle.marks.specs.Marks.{marked, unmarked, with_mark}
+use Rattle.marks.specs.Marks.{marked, unmarked}
 use Rattle.marks.proofs.Marking.{same_test, none_marked, length-unmarked, marked-with_mark, length-with_mark}
 use Rattle.job.specs.Lists.{entered}
 use Rattle.job.specs.Visited.{mark_of, with_visit, MarkedAs}
@@ -26,19 +21,7 @@ same_mark : (a b : ℕ) → a < nodes_most → b < nodes_most → eqb (mark_of a
 unfolding mark_of
 same_mark a b h l = same_test (mark_of a) (mark_of b) a b (λ e. omega arith) (λ e. omega arith)
 
--- the mark of a node tells whether it was visited
-pub mark_tells : (visited words : List ℕ) {n node mark : ℕ} → MarkedAs visited words → n ≡ node → n < nodes_most → mark ≡ mark_of n → marked words mark ≡ among node visited
-mark_tells visited words {n} m e l w = rw (w, ← e) (m.told n l)
-
 -- one node more is visited: it is marked if it is a node of a job, and else the words stay
-pub visit_marked : (words : List ℕ) {n node mark : ℕ} → n ≡ node → n < nodes_most → mark ≡ mark_of n → with_mark words mark ≡ with_visit words node
-unfolding with_visit
-visit_marked words {n} {node} e l w = rw (w, ← e, lt-ltb n nodes_most l)
-
-pub visit_nothing : (words : List ℕ) {n node : ℕ} → n ≡ node → nodes_most ≤ n → words ≡ with_visit words node
-unfolding with_visit
-visit_nothing words {n} {node} e h = rw (← e, le-ltb n nodes_most h)
-
 visit_length : (words : List ℕ) (node : ℕ) → length (with_visit words node) ≡ length words
 unfolding with_visit
 visit_length words node = elim (dec_lt node nodes_most) [
@@ -77,5 +60,6 @@ abbrev pub VisitedBefore : (ends path : List ℕ) (source p : ℕ) → List ℕ 
 VisitedBefore ends path source p words = MarkedAs (source ∷ entered ends (take p path)) words
 
 pub visited_turn : (ends path : List ℕ) (source p : ℕ) {link node : ℕ} (words : List ℕ) {more : List ℕ} → link ≡ get_or path p 0 → p < length path
-    → VisitedBefore ends path source p words → node ≡ get_or ends link 0 → more ≡ with_visit words node → VisitedBefore ends path source (p + 1) more
-visited_turn ends path source p words e h m b w = rw (w, b, e, entered-more ends path p h) (marked_more (source ∷ entered ends (take p path)) words _ m)
+    → slice_get ends link ≡ Some node → VisitedBefore ends path source p words → more ≡ with_visit words node → VisitedBefore ends path source (p + 1) more
+visited_turn ends path source p {link} {node} words e h s m w =
+    rw (w, add-one p, take-suc path p 0, ← e, entered-more ends (take p path) link node s) (marked_more (source ∷ entered ends (take p path)) words node m)

@@ -1,7 +1,10 @@
 -- The lists that code is lent, as a job of the rules.
-use Rattle.std.specs.Prelude.{Bool, ◌&&◌, List, map, ℕ, leb, get_or}
+use Rattle.std.specs.Prelude.{Bool, false, eqb, ◌&&◌, List, ℕ, leb, length, slice_get, Option, None, Some}
+use Rattle.std.proofs.Math.Option.{Option as Maybe, none, some}
+use Rattle.std.specs.List.{filter_map}
 use Rattle.rules.specs.Sizes.{nodes_most, links_most, packets_most, hops_most}
-use Rattle.rules.specs.Network.{Network, Job}
+use Rattle.rules.specs.Network.{Network, Link, Job}
+use Rattle.rules.specs.Tables.{stops_agree}
 use Rattle.job.specs.declared.Network.{Network as NetworkLists}
 use Rattle.job.specs.declared.JobLists.{JobLists}
 
@@ -18,11 +21,32 @@ network_in network = network_of network.nodes network.origins.now network.ends.n
 abbrev pub job_in : JobLists → Job
 job_in lists = record { network = network_in lists.network; sources = lists.sources.now; stops = lists.stops.now; hops = lists.hops.now }
 
+-- a link that was looked up: where it leaves and where it goes
+abbrev pub link_found : Option (ℕ × ℕ) → Maybe Link
+link_found None = none
+link_found (Some link) = some (record { from = link.0; to = link.1 })
+
+-- whether it is that node, if there is one
+abbrev pub is_node : Option ℕ → ℕ → Bool
+is_node None node = false
+is_node (Some n) node = eqb n node
+
 -- the nodes that these links enter
 unfoldable pub entered : List ℕ → List ℕ → List ℕ
-entered ends links = map (λ l. get_or ends l 0) links
+entered ends links = filter_map (slice_get ends) links
+
+-- whether a job's lists agree, in one test
+abbrev pub lists_agree : Job → Bool
+lists_agree j =
+    eqb (length j.network.origins) (length j.network.ends)
+    && eqb (length j.sources) (length j.stops)
+    && stops_agree 0 j.stops (length j.hops)
 
 -- the sizes of a job's tables, in one test
-abbrev pub sizes_fit : (nodes links packets hops : ℕ) → Bool
-sizes_fit nodes links packets hops =
-    leb 1 nodes && leb nodes nodes_most && leb links links_most && leb packets packets_most && leb hops hops_most
+abbrev pub sizes_fit : Job → Bool
+sizes_fit j =
+    leb 1 j.network.nodes
+    && leb j.network.nodes nodes_most
+    && leb (length j.network.origins) links_most
+    && leb (length j.sources) packets_most
+    && leb (length j.hops) hops_most

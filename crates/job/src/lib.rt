@@ -1,13 +1,13 @@
 // A job as lists: its sizes, steps and hops, what can be refused, and the verdict on its tables.
 #![tactic(auto)]
 
-ghost use Rattle.std.specs.Prelude.{◌≡◌, true, [], ◌∷◌, ℕ, ◌+◌, ◌≤◌, ◌<◌, length, get_or, take};
+ghost use Rattle.std.specs.Prelude.{◌≡◌, true, [], ◌∷◌, ◌+◌, ◌≤◌, length, slice_get};
 ghost use Rattle.counting.specs.Count.{among};
 ghost use Rattle.rules.specs.Sizes.{nodes_most, links_most, packets_most, path_most, hops_most, text_most, plan_most, start_most};
-ghost use Rattle.rules.specs.Network.{paths};
+ghost use Rattle.rules.specs.Network.{link_at, paths};
 ghost use Rattle.rules.specs.Tables.{link_verdict, walk as walk_verdict, packet_verdict, links_verdict, packets_verdict, stops_agree, tables as tables_verdict};
 ghost use Rattle.rules.specs.Answers.{starts_verdict, started_verdict};
-ghost use Rattle.job.specs.Lists.{network_of, network_in, job_in, entered, sizes_fit};
+ghost use Rattle.job.specs.Lists.{network_in, job_in, link_found, is_node, entered, lists_agree, sizes_fit};
 ghost use Rattle.job.specs.Told.{number_place, verdict_of};
 ghost use Rattle.job.specs.Visited.{mark_of, with_visit, MarkedAs};
 
@@ -20,6 +20,7 @@ pub struct Job {
     pub hops: u16,
 }
 
+// The sizes are constants of the job's type: document 01 names this form.
 impl Job {
     // nodes are 1 to this
     pub const NODES: usize = 1024;
@@ -38,60 +39,23 @@ impl Job {
     // the latest start that may be handed in
     pub const START: u16 = 32767;
 
-    // Each of these is the number that the rules name.
-    pub fn nodes_most() -> usize
-        ensures { result ≡ nodes_most }
-    {
-        Job::NODES
-    }
-
-    pub fn links_most() -> usize
-        ensures { result ≡ links_most }
-    {
-        Job::LINKS
-    }
-
-    pub fn packets_most() -> usize
-        ensures { result ≡ packets_most }
-    {
-        Job::PACKETS
-    }
-
-    pub fn path_most() -> usize
-        ensures { result ≡ path_most }
-    {
-        Job::PATH
-    }
-
-    pub fn hops_most() -> usize
-        ensures { result ≡ hops_most }
-    {
-        Job::HOPS
-    }
-
-    pub fn text_most() -> usize
-        ensures { result ≡ text_most }
-    {
-        Job::TEXT
-    }
-
-    pub fn plan_most() -> usize
-        ensures { result ≡ plan_most }
-    {
-        Job::PLAN
-    }
-
-    pub fn start_most() -> u16
-        ensures { result ≡ start_most }
-    {
-        Job::START
-    }
+    // Each is the number of that name in the rules. There is nothing to do: the clauses are what is said.
+    pub fn sizes()
+        ensures nodes { Job.NODES ≡ nodes_most }
+        ensures links { Job.LINKS ≡ links_most }
+        ensures packets { Job.PACKETS ≡ packets_most }
+        ensures path { Job.PATH ≡ path_most }
+        ensures hops { Job.HOPS ≡ hops_most }
+        ensures text { Job.TEXT ≡ text_most }
+        ensures plan { Job.PLAN ≡ plan_most }
+        ensures start { Job.START ≡ start_most }
+    {}
 }
 
 // Words with a bit for each node of a job.
 const NODE_WORDS: usize = 16;
 
-// A position along a path.
+// A position along a path. It and the step are tuple structs: document 01 names this form.
 #[derive(Clone, Copy, Debug, PartialEq, Eq)]
 pub struct Hop(pub u16);
 
@@ -129,49 +93,39 @@ pub enum Refusal {
 }
 
 impl Refusal {
-    // The number that the papers give it: document 01, and document 02 for those of its requests.
+    // The number that the papers give it, by document 01, and by document 02 for those of its requests, and its place: 0 where it has none.
+    fn number_place(self) -> (u32, u32)
+        ensures { result ≡ number_place self }
+    {
+        match self {
+            Refusal::TextTooLong => (1, 0),
+            Refusal::BadForm(line) => (2, line),
+            Refusal::Size(place) => (3, place),
+            Refusal::NoNode(place) => (4, place),
+            Refusal::SelfLink(place) => (5, place),
+            Refusal::NoLink(place) => (6, place),
+            Refusal::NotLeaving(place) => (7, place),
+            Refusal::Revisited(place) => (8, place),
+            Refusal::Disagree => (9, 0),
+            Refusal::ShortRoom => (10, 0),
+            Refusal::StartCount => (11, 0),
+            Refusal::LateStart(place) => (12, place),
+            Refusal::NoLead => (13, 0),
+            Refusal::NotFollowing(line) => (14, line),
+            Refusal::NoHops(place) => (15, place),
+        }
+    }
+
     pub fn number(self) -> u32
         ensures { result ≡ (number_place self).0 }
     {
-        match self {
-            Refusal::TextTooLong => 1,
-            Refusal::BadForm(_) => 2,
-            Refusal::Size(_) => 3,
-            Refusal::NoNode(_) => 4,
-            Refusal::SelfLink(_) => 5,
-            Refusal::NoLink(_) => 6,
-            Refusal::NotLeaving(_) => 7,
-            Refusal::Revisited(_) => 8,
-            Refusal::Disagree => 9,
-            Refusal::ShortRoom => 10,
-            Refusal::StartCount => 11,
-            Refusal::LateStart(_) => 12,
-            Refusal::NoLead => 13,
-            Refusal::NotFollowing(_) => 14,
-            Refusal::NoHops(_) => 15,
-        }
+        self.number_place().0
     }
 
     pub fn place(self) -> u32
         ensures { result ≡ (number_place self).1 }
     {
-        match self {
-            Refusal::BadForm(line) => line,
-            Refusal::Size(place) => place,
-            Refusal::NoNode(place) => place,
-            Refusal::SelfLink(place) => place,
-            Refusal::NoLink(place) => place,
-            Refusal::NotLeaving(place) => place,
-            Refusal::Revisited(place) => place,
-            Refusal::LateStart(place) => place,
-            Refusal::NotFollowing(line) => line,
-            Refusal::NoHops(place) => place,
-            Refusal::TextTooLong => 0,
-            Refusal::Disagree => 0,
-            Refusal::ShortRoom => 0,
-            Refusal::StartCount => 0,
-            Refusal::NoLead => 0,
-        }
+        self.number_place().1
     }
 }
 
@@ -193,13 +147,11 @@ pub struct JobLists<'a> {
 }
 
 // One link: its nodes, then that they differ.
+#[tactic(auto, unfolding(rules::specs::Tables::link_verdict))]
 pub fn link_verdict(nodes: u16, from: u16, to: u16, place: u32) -> Result<(), Refusal>
     ensures { verdict_of result ≡ link_verdict nodes place from to }
 {
-    if from >= nodes {
-        return Err(Refusal::NoNode(place));
-    }
-    if to >= nodes {
+    if from >= nodes || to >= nodes {
         return Err(Refusal::NoNode(place));
     }
     if from == to {
@@ -208,27 +160,23 @@ pub fn link_verdict(nodes: u16, from: u16, to: u16, place: u32) -> Result<(), Re
     Ok(())
 }
 
-// Whether the node is the source, or one that the first links of the path enter.
-fn visited(ends: &[u16], path: &[u16], count: usize, source: u16, node: u16) -> bool
-    requires { (count ≤ length path.now) × ((q : ℕ) → q < count → get_or path.now q 0 < length ends.now) }
-    ensures { result ≡ among node (source ∷ entered ends.now (take count path.now)) }
+// Whether the link is there, and enters the node.
+fn enters(ends: &[u16], link: u16, node: u16) -> bool
+    ensures { result ≡ is_node (slice_get ends.now link) node }
 {
-    if source == node {
-        return true;
-    }
-    let mut q = 0;
-    while q < count {
-        let link = usize::from(path[q]);
-        if ends[link] == node {
-            return true;
-        }
-        q += 1;
-    }
-    false
+    ends.get(usize::from(link)) == Some(&node)
+}
+
+// Whether the node is the source, or one that the links enter.
+fn visited(ends: &[u16], links: &[u16], source: u16, node: u16) -> bool
+    ensures { result ≡ among node (source ∷ entered ends.now links.now) }
+{
+    source == node || links.iter().any(|&link| enters(ends, link, node))
 }
 
 // The number by which a node is marked. Often a path goes on to a node of a neighbouring number, and these have their marks in different
 // words: one that was just written can be slow to read.
+#[tactic(auto, unfolding(crate::specs::Visited::mark_of))]
 fn mark_of(node: usize) -> usize
     ensures { result ≡ mark_of node }
 {
@@ -236,6 +184,7 @@ fn mark_of(node: usize) -> usize
 }
 
 // Marks a node as visited, where it has a mark: a node of a job does.
+#[tactic(auto, unfolding(crate::specs::Visited::with_visit))]
 fn visit(words: &mut [u64], node: u16)
     ensures { words.new ≡ with_visit words.old node }
 {
@@ -245,60 +194,59 @@ fn visit(words: &mut [u64], node: u16)
     }
 }
 
-// Whether the node is the source, or one that the first links of the path enter: by its mark, where it has one.
-fn seen(words: &[u64], ends: &[u16], path: &[u16], count: usize, source: u16, node: u16) -> bool
-    requires { (count ≤ length path.now) × ((q : ℕ) → q < count → get_or path.now q 0 < length ends.now)
-        × MarkedAs (source ∷ entered ends.now (take count path.now)) words.now }
-    ensures { result ≡ among node (source ∷ entered ends.now (take count path.now)) }
+// Whether the node is the source, or one that the links enter: by its mark, where it has one.
+fn seen(words: &[u64], ends: &[u16], links: &[u16], source: u16, node: u16) -> bool
+    requires { MarkedAs (source ∷ entered ends.now links.now) words.now }
+    ensures { result ≡ among node (source ∷ entered ends.now links.now) }
 {
     let asked = usize::from(node);
     if asked < Job::NODES {
         return marks::is_marked(words, mark_of(asked));
     }
-    visited(ends, path, count, source, node)
+    visited(ends, links, source, node)
 }
 
 impl Network<'_> {
+    // Where a link leaves and where it goes, if there is one of this number.
+    fn link(&self, number: u16) -> Option<(u16, u16)>
+        ensures { link_found result ≡ link_at (network_in self.now) number }
+    {
+        let number = usize::from(number);
+        Some((*self.origins.get(number)?, *self.ends.get(number)?))
+    }
+
     // The path hop by hop, from its source.
     fn walk(&self, path: &[u16], source: u16, place: u32) -> Result<(), Refusal>
         ensures { verdict_of result ≡ walk_verdict (network_in self.now) place source (source ∷ []) path.now }
     {
-        let Network { origins, ends, .. } = *self;
         let mut words = [0u64; NODE_WORDS];
         visit(&mut words, source);
         let mut reached = source;
-        let mut p = 0;
-        while p < path.len() {
-            let link = usize::from(path[p]);
-            if link >= origins.len() {
+        for (p, &link) in path.iter().enumerate() {
+            let Some((from, to)) = self.link(link) else {
                 return Err(Refusal::NoLink(place));
-            }
-            if link >= ends.len() {
-                return Err(Refusal::NoLink(place));
-            }
-            if origins[link] != reached {
+            };
+            if from != reached {
                 return Err(Refusal::NotLeaving(place));
             }
-            let node = ends[link];
-            if seen(&words, ends, path, p, source, node) {
+            if seen(&words, self.ends, &path[..p], source, to) {
                 return Err(Refusal::Revisited(place));
             }
-            visit(&mut words, node);
-            reached = node;
-            p += 1;
+            visit(&mut words, to);
+            reached = to;
         }
         Ok(())
     }
 
     // One packet: its path's length, its source, that it has hops, then each of them.
+    #[tactic(auto, unfolding(rules::specs::Tables::packet_verdict))]
     pub fn packet_verdict(&self, path: &[u16], source: u16, place: u32) -> Result<(), Refusal>
         ensures { verdict_of result ≡ packet_verdict (network_in self.now) place source path.now }
     {
         if path.len() > Job::PATH {
             return Err(Refusal::Size(place));
         }
-        let nodes = self.nodes;
-        if source >= nodes {
+        if source >= self.nodes {
             return Err(Refusal::NoNode(place));
         }
         if path.is_empty() {
@@ -309,18 +257,11 @@ impl Network<'_> {
 
     // The links in order.
     fn links_verdict(&self) -> Result<(), Refusal>
-        requires { (length self.now.ends.now ≡ length self.now.origins.now) × (length self.now.origins.now ≤ links_most) }
+        requires { length self.now.origins.now ≤ links_most }
         ensures { verdict_of result ≡ links_verdict self.now.nodes 0 self.now.origins.now self.now.ends.now }
     {
-        let Network {
-            nodes,
-            origins,
-            ends,
-        } = *self;
-        let mut l = 0;
-        while l < origins.len() {
-            link_verdict(nodes, origins[l], ends[l], l as u32)?;
-            l += 1;
+        for (l, (&from, &to)) in self.origins.iter().zip(self.ends).enumerate() {
+            link_verdict(self.nodes, from, to, l as u32)?;
         }
         Ok(())
     }
@@ -330,27 +271,8 @@ impl Network<'_> {
 fn stops_agree(stops: &[u16], hops: usize) -> bool
     ensures { result ≡ stops_agree 0 stops.now hops }
 {
-    let mut last = 0;
-    let mut k = 0;
-    while k < stops.len() {
-        let stop = usize::from(stops[k]);
-        if stop < last {
-            return false;
-        }
-        last = stop;
-        k += 1;
-    }
-    last == hops
-}
-
-fn sizes_fit(nodes: u16, links: usize, packets: usize, hops: usize) -> bool
-    ensures { result ≡ sizes_fit nodes links packets hops }
-{
-    nodes >= 1
-        && usize::from(nodes) <= Job::NODES
-        && links <= Job::LINKS
-        && packets <= Job::PACKETS
-        && hops <= Job::HOPS
+    let last = stops.last().copied().unwrap_or(0);
+    stops.is_sorted_by(|a, b| a <= b) && usize::from(last) == hops
 }
 
 // The lowest packet whose start is too late.
@@ -358,14 +280,10 @@ fn starts_verdict(starts: &[u16]) -> Result<(), Refusal>
     requires { length starts.now ≤ packets_most }
     ensures { verdict_of result ≡ starts_verdict 0 starts.now }
 {
-    let mut packet = 0;
-    while packet < starts.len() {
-        if starts[packet] > Job::START {
-            return Err(Refusal::LateStart(packet as u32));
-        }
-        packet += 1;
+    match starts.iter().position(|&start| start > Job::START) {
+        Some(packet) => Err(Refusal::LateStart(packet as u32)),
+        None => Ok(()),
     }
-    Ok(())
 }
 
 impl JobLists<'_> {
@@ -375,55 +293,52 @@ impl JobLists<'_> {
             × (stops_agree 0 self.now.stops.now (length self.now.hops.now) ≡ true) }
         ensures { verdict_of result ≡ packets_verdict (network_in self.now.network) 0 self.now.sources.now (paths (job_in self.now)) }
     {
-        let JobLists {
-            network,
-            sources,
-            stops,
-            hops,
-        } = *self;
         let mut from = 0;
-        let mut k = 0;
-        while k < sources.len() {
-            let to = usize::from(stops[k]);
-            network.packet_verdict(&hops[from..to], sources[k], k as u32)?;
+        for (k, (&source, &stop)) in self.sources.iter().zip(self.stops).enumerate() {
+            let to = usize::from(stop);
+            let path = &self.hops[from..to];
+            self.network.packet_verdict(path, source, k as u32)?;
             from = to;
-            k += 1;
         }
         Ok(())
     }
 
+    // Whether the lists are of one job: an end for each origin, a stop for each source, and stops that agree with the hops.
+    fn lists_agree(&self) -> bool
+        ensures { result ≡ lists_agree (job_in self.now) }
+    {
+        self.network.origins.len() == self.network.ends.len()
+            && self.sources.len() == self.stops.len()
+            && stops_agree(self.stops, self.hops.len())
+    }
+
+    // Whether each size is within its bounds.
+    fn sizes_fit(&self) -> bool
+        ensures { result ≡ sizes_fit (job_in self.now) }
+    {
+        (1..=Job::NODES).contains(&usize::from(self.network.nodes))
+            && self.network.origins.len() <= Job::LINKS
+            && self.sources.len() <= Job::PACKETS
+            && self.hops.len() <= Job::HOPS
+    }
+
     // The tables of a job: that they agree, their sizes, then links and packets.
+    #[tactic(auto, using(crate::proofs::VerdictLoops::tables_in_order))]
     pub fn tables(&self) -> Result<(), Refusal>
         ensures { verdict_of result ≡ tables_verdict (job_in self.now) }
     {
-        let JobLists {
-            network,
-            sources,
-            stops,
-            hops,
-        } = *self;
-        let Network {
-            nodes,
-            origins,
-            ends,
-        } = network;
-        if origins.len() != ends.len() {
+        if !self.lists_agree() {
             return Err(Refusal::Disagree);
         }
-        if sources.len() != stops.len() {
-            return Err(Refusal::Disagree);
-        }
-        if !stops_agree(stops, hops.len()) {
-            return Err(Refusal::Disagree);
-        }
-        if !sizes_fit(nodes, origins.len(), sources.len(), hops.len()) {
+        if !self.sizes_fit() {
             return Err(Refusal::Size(0));
         }
-        network.links_verdict()?;
+        self.network.links_verdict()?;
         self.packets_verdict()
     }
 
     // A job with starts made elsewhere: its tables, a start for each packet, none too late.
+    #[tactic(auto, unfolding(rules::specs::Answers::started_verdict))]
     pub fn started(&self, starts: &[u16]) -> Result<(), Refusal>
         ensures { verdict_of result ≡ started_verdict (job_in self.now) starts.now }
     {

@@ -1,15 +1,19 @@
--- Each turn judges the first start that is left.
-use Rattle.std.proofs.Common.{sym, ◌∙◌, arith}
-use Rattle.job.proofs.VerdictLoops.{starts_late, starts_on, starts_done}
+-- It is 12 for the first that is too late.
+use Rattle.std.proofs.Common.{◌≡◌, nat_lt, sym, ap, ◌∙◌, rules, tests}
+use Rattle.std.specs.List.{position}
+use Rattle.std.proofs.lemmas.Iterator.{YieldsList-from_slice}
+use Rattle.std.proofs.lemmas.Iterator.Search.{position_from_yields_List}
+use Rattle.rules.specs.Sizes.{start_most}
+use Rattle.job.proofs.VerdictLoops.{late_at, first_late}
+use Rattle.job.proofs.starts_verdict.Goals.{After-position}
 use Rattle.job.proofs.starts_verdict.Goals as goal
 
-pub returns-then-starts-packet-gt-START : goal.returns-then-starts-packet-gt-START
-returns-then-starts-packet-gt-START c =
-    sym (c.loop-packet.invariant.1 ∙ starts_late _ _ c.loop-packet-test.true c.if-starts-packet-gt-START.true)
+found : (c : After-position) → c.position.result ≡ position (nat_lt start_most) c.args.starts.now
+found c =
+    position_from_yields_List (nat_lt start_most) _ _ _ c.position.ensures.ran (YieldsList-from_slice c.args.starts.now cc) (λ x b q k. search (rules, tests))
 
-pub loop-packet-preserved : goal.loop-packet-preserved
-loop-packet-preserved c =
-    (omega arith, c.loop-packet.invariant.1 ∙ starts_on _ _ c.loop-packet-test.true c.if-starts-packet-gt-START.false)
+pub returns-in-Some : goal.returns-in-Some
+returns-in-Some c = ap late_at (sym c.in-Some.is ∙ found (goal.at.returns-in-Some c).After-position) ∙ sym (first_late c.args.starts.now)
 
-pub returns : goal.returns
-returns c = sym (c.loop-packet.invariant.1 ∙ starts_done _ _ c.loop-packet-test.false)
+pub returns-in-None : goal.returns-in-None
+returns-in-None c = ap late_at (sym c.in-None.is ∙ found (goal.at.returns-in-None c).After-position) ∙ sym (first_late c.args.starts.now)

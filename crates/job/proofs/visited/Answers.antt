@@ -1,18 +1,15 @@
--- Each turn looks at the first link that is left.
-use Rattle.std.proofs.Common.{sym, ◌∙◌, arith}
+-- After the source, the node is sought among those that the links enter.
+use Rattle.std.proofs.Common.{slice_get, ◌∙◌, rules, tests}
+use Rattle.std.proofs.lemmas.Iterator.{YieldsList-from_slice}
+use Rattle.std.proofs.lemmas.Iterator.Search.{any_from_yields_List}
 use borrow.Author.Tests.{ne_eqb}
-use Rattle.job.proofs.VerdictLoops.{seen_here, seen_on, seen_none}
+use Rattle.job.specs.Lists.{is_node}
+use Rattle.job.proofs.VerdictLoops.{any_enters}
 use Rattle.job.proofs.visited.Goals as goal
 
-pub returns-then-ends-link : goal.returns-then-ends-link
-returns-then-ends-link c =
-    rw (ne_eqb _ _ c.if-source-node.false)
-    (sym (c.loop-q.invariant.1 ∙ seen_here _ _ _ _ c.requires.0 _ c.from-link.ensures c.loop-q-test.true c.if-ends-link.true))
-
-pub loop-q-preserved : goal.loop-q-preserved
-loop-q-preserved c =
-    (omega arith, c.loop-q.invariant.1 ∙ seen_on _ _ _ _ c.requires.0 _ c.from-link.ensures c.loop-q-test.true c.if-ends-link.false)
-
-pub returns : goal.returns
-returns c =
-    rw (ne_eqb _ _ c.if-source-node.false) (sym (c.loop-q.invariant.1 ∙ seen_none _ _ _ _ c.requires.0 _ c.loop-q-test.false))
+pub returns-else-source-node : goal.returns-else-source-node
+returns-else-source-node c =
+    let a = c.args in
+    rw (ne_eqb a.source a.node c.if-source-node.false)
+    (any_from_yields_List (λ l. is_node (slice_get a.ends.now l) a.node) _ _ _ c.any.ensures.ran (YieldsList-from_slice a.links.now cc) (λ x b q k. search (rules, tests))
+    ∙ any_enters a.ends.now a.node a.links.now)

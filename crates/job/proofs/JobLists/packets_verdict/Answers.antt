@@ -1,45 +1,58 @@
 -- Each turn judges the first packet that is left, whose path lies within the hops.
 use Rattle.std.proofs.Common.{◌≡◌, true, ◌+◌, ◌≤◌, length, drop, Err, refl, sym, ◌∙◌, arith, rules}
+use Rattle.std.proofs.lemmas.List.{length_push}
 use Rattle.rules.specs.Network.{paths}
 use Rattle.rules.specs.Tables.{stops_agree}
+use Rattle.job.proofs.Pairs.{AtPair, pair_turn, pair_end}
 use Rattle.job.proofs.VerdictLoops.{stops_part, packets_refused, packets_on, packets_done}
-use Rattle.job.proofs.JobLists.packets_verdict.Goals.{After-network-in-loop-k-1}
+use Rattle.job.proofs.JobLists.packets_verdict.Goals.{After-from-to}
 use Rattle.job.proofs.JobLists.packets_verdict.Goals as goal
 
+here : (c : After-from-to)
+    → let j = c.args.self.now in
+    AtPair j.sources.now j.stops.now (length c.loop-k.yielded) (c.in-Some.k, (c.in-Some.field-0-1-0.now, c.in-Some.field-0-1-1.now))
+here c = pair_turn _ _ c.into_iter-k-iterator.result (cc) (cc) (cc) c.loop-k.yielded c.loop-k.k-iterator c.next.new.self c.loop-k.yielded_by c.in-Some.is c.next.ensures.steps
+
 -- the path that is lent lies within the hops
-part : (c : After-network-in-loop-k-1)
-    → let hops = length c.args.self.now.hops.now in
+part : (c : After-from-to)
+    → let j = c.args.self.now in
     let to = c.from-to.result in
-    (c.loop-k.from ≤ to) × (to ≤ hops) × (stops_agree to (drop (c.loop-k.k + 1) c.args.self.now.stops.now) hops ≡ true)
-part c = stops_part c.args.self.now.hops.now _ c.args.self.now.stops.now c.loop-k.k c.from-to.ensures (omega arith) c.loop-k.invariant.1
+    let hops = length j.hops.now in
+    (c.loop-k.from ≤ to) × (to ≤ hops) × (stops_agree to (drop (length c.loop-k.yielded + 1) j.stops.now) hops ≡ true)
+part c =
+    let at = here c in
+    stops_part c.args.self.now.hops.now _ c.args.self.now.stops.now (length c.loop-k.yielded) (c.from-to.ensures ∙ at.other) at.second c.loop-k.invariant.0
 
 pub loop-k-init : goal.loop-k-init
 unfolding paths
-loop-k-init c = (omega arith, c.requires.2, refl)
+loop-k-init c = (c.requires.2, refl)
 
-pub offset_bounds-hops-from : goal.offset_bounds-hops-from
-offset_bounds-hops-from c = omega (arith, part c)
+pub offset_bounds-self-from : goal.offset_bounds-self-from
+offset_bounds-self-from c = omega (arith, part (goal.at.offset_bounds-self-from c).After-from-to)
 
-pub slice_bounds-packet_verdict-count : goal.slice_bounds-packet_verdict-count
-slice_bounds-packet_verdict-count c = (part c).0
+pub slice_bounds-path-count : goal.slice_bounds-path-count
+slice_bounds-path-count c = (part (goal.at.slice_bounds-path-count c).After-from-to).0
 
-pub slice_bounds-packet_verdict-start : goal.slice_bounds-packet_verdict-start
-slice_bounds-packet_verdict-start c = (part c).0
+pub slice_bounds-path-start : goal.slice_bounds-path-start
+slice_bounds-path-start c = (part (goal.at.slice_bounds-path-start c).After-from-to).0
 
-pub slice_bounds-packet_verdict-end : goal.slice_bounds-packet_verdict-end
-slice_bounds-packet_verdict-end c = (part c).1
+pub slice_bounds-path-end : goal.slice_bounds-path-end
+slice_bounds-path-end c = (part (goal.at.slice_bounds-path-end c).After-from-to).1
 
 pub returns-in_err-packet_verdict : goal.returns-in_err-packet_verdict
 returns-in_err-packet_verdict c =
     let e : c.from_residual.result ≡ Err c.in_err-packet_verdict.field-0.0 = search rules in
-    rw e (sym (c.loop-k.invariant.2 ∙ packets_refused _ _ _ _ _ _ c.from-to.ensures c.loop-k-test.true (omega arith) c.in_err-packet_verdict.ensures))
+    let at = here (goal.at.returns-in_err-packet_verdict c).After-from-to in
+    rw e (sym (c.loop-k.invariant.1 ∙ packets_refused _ _ _ _ _ _ at c.from-to.ensures c.in_err-packet_verdict.ensures))
 
 pub loop-k-preserved : goal.loop-k-preserved
-loop-k-preserved c = (
-  omega arith,
-  (stops_part c.args.self.now.hops.now _ c.args.self.now.stops.now c.loop-k.k c.from-to.ensures (omega arith) c.loop-k.invariant.1).2,
-  c.loop-k.invariant.2 ∙ packets_on _ _ _ _ _ _ c.from-to.ensures c.loop-k-test.true (omega arith) c.in_ok-packet_verdict.ensures,
-)
+loop-k-preserved c =
+    let at = here (goal.at.loop-k-preserved c).After-from-to in
+    rw (length_push c.loop-k.yielded (c.in-Some.k, (c.in-Some.field-0-1-0, c.in-Some.field-0-1-1)))
+    ((part (goal.at.loop-k-preserved c).After-from-to).2, c.loop-k.invariant.1 ∙ packets_on _ _ _ _ _ _ at c.from-to.ensures c.in_ok-packet_verdict.ensures)
 
 pub returns : goal.returns
-returns c = sym (c.loop-k.invariant.2 ∙ packets_done _ _ _ _ _ _ c.loop-k-test.false)
+returns c =
+    let j = c.args.self.now in
+    let all = pair_end j.sources.now j.stops.now c.into_iter-k-iterator.result (cc) (cc) (cc) c.loop-k.yielded c.loop-k.k-iterator c.next.new.self c.loop-k.yielded_by c.in-None.is c.next.ensures.steps in
+    sym (c.loop-k.invariant.1 ∙ packets_done _ _ _ _ _ _ (omega (arith, all)))
