@@ -1,22 +1,22 @@
 -- Line by line: what is left to read from a cursor on, with the job so far, and how that ends.
-use mathlib.Core.Path.{◌≡◌, refl, sym, ◌∙◌}
+use mathlib.Core.Path.{◌≡◌, sym, ◌∙◌}
 use mathlib.Core.List.{List}
 use Prim.Native.Nat.{ℕ, suc, ◌+◌, ◌≤◌, ◌<◌}
 use native.Mathlib.Omega.{arith}
 use native.Mathlib.Decide.{dec_lt}
-use borrow.Author.Tests.{lt-ltb, le-ltb, le-leb, lt-leb, ne_eqb}
+use borrow.Author.Tests.{lt-ltb, le-ltb, ne_eqb}
 use lib.ListN.{length, take, drop, drop_of_length-le}
 use Rattle.std.specs.Prelude.{Result, Ok, Err}
-use Rattle.rules.specs.Sizes.{text_most, nodes_most}
+use Rattle.rules.specs.Sizes.{text_most}
 use Rattle.rules.specs.Network.{Job}
 use Rattle.rules.specs.Outcome.{Outcome, onward}
 use Rattle.rules.specs.Bytes.{line_feed, split}
-use Rattle.rules.specs.JobText.{Line as Said, nodes, bad, with_line, with_lines, first_line, all_lines}
+use Rattle.rules.specs.JobText.{Line as Said, bad, with_line, with_lines, first_line, all_lines}
 use Rattle.theorems.proofs.TextPieces.{split_first}
 use Rattle.theorems.specs.TextRest.{with_rest}
 use Rattle.job.specs.declared.Job.{Job as Counts}
 use Rattle.job.specs.declared.Refusal.{Refusal}
-use Rattle.job.specs.declared.Refusal.TheVariants.{BadForm, Size}
+use Rattle.job.specs.declared.Refusal.TheVariants.{BadForm}
 use Rattle.lines.specs.declared.reading.Lines.{Lines}
 use Rattle.lines.specs.Cursor.{cursor_at, line_after, top_line}
 use Rattle.lines.specs.Behind.{line_rest, line_end}
@@ -55,9 +55,6 @@ top_line_lem text =
 pub room_kept : {lent after : Lists} → SameLengths lent after → Room lent → Room after
 room_kept s room = record { origins = omega arith; ends = omega arith; sources = omega arith; stops = omega arith; hops = omega arith }
 
-pub room_copied : {l : Lists} (hops : List ℕ) → Room l → length hops ≡ length l.hops → Room (lists l.origins l.ends l.sources l.stops hops)
-room_copied hops r e = record { origins = r.origins; ends = r.ends; sources = r.sources; stops = r.stops; hops = omega (arith, r.hops) }
-
 -- where a cursor goes
 pub moved_at : {next : Lines} {at line : ℕ} → next ≡ cursor_at at line → next.at ≡ at
 moved_at e = rw e
@@ -69,16 +66,6 @@ pub record Going (text : List ℕ) (whole : Outcome Job) (now : Lists) (cursor :
   pub within : Within job
   pub line : cursor.line ≤ cursor.at + 1
   pub left : whole ≡ with_rest cursor.line (so_far job now) (split line_feed (drop cursor.at text))
-
-pub going : (text : List ℕ) (lent : Lists) (first : Lines) (begun : Counts) → length text ≤ text_most → Room lent → Within begun → first.line ≤ first.at + 1
-    → Going text (with_rest first.line (so_far begun lent) (split line_feed (drop first.at text))) lent first begun
-going text lent first begun short room within line = record {
-  short = short;
-  room = room;
-  within = within;
-  line = line;
-  left = refl;
-}
 
 module _ {text : List ℕ} {whole : Outcome Job} {now : Lists} {cursor : Lines} {job : Counts} (g : Going text whole now cursor job) where
   pub going_end : length text ≤ cursor.at → Took whole (Ok job) now
@@ -120,16 +107,6 @@ module _ {text : List ℕ} {whole : Outcome Job} {now : Lists} {cursor : Lines} 
           })
 
 -- ---- the first line
-
-module _ (n : ℕ) where
-  pub no_nodes : {after : Lists} → n < 1 → Took (first_line (nodes n)) (Err (Size 1)) after
-  no_nodes h = took_refusal (rw (lt-leb 1 n))
-
-  pub nodes_over : {after : Lists} → 1 ≤ n → nodes_most < n → Took (first_line (nodes n)) (Err (Size 1)) after
-  nodes_over h k = took_refusal (rw (le-leb 1 n, lt-leb n nodes_most))
-
-  pub nodes_begin : {after : Lists} → 1 ≤ n → n ≤ nodes_most → Took (first_line (nodes n)) (Ok (record { nodes = n; links = 0; packets = 0; hops = 0 })) after
-  nodes_begin h k = record { read = rw (le-leb 1 n, le-leb n nodes_most); within = omega arith }
 
 -- the line at the top, and the lines below it
 module _ (text : List ℕ) where

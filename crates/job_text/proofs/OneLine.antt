@@ -16,7 +16,7 @@ use Rattle.rules.specs.Bytes.{line_feed, letter_l, letter_n, letter_p, cons_onto
 use Rattle.rules.specs.JobText.{Line, packet, bad, letter_line, fields_line, line_of}
 use Rattle.lines.specs.declared.reading.Copied.{Copied}
 use Rattle.lines.specs.Behind.{letter_of, line_rest, line_end, fields_behind, copied, leading}
-use Rattle.lines.proofs.BehindPlaces.{letter_here, SaidBehind}
+use Rattle.lines.proofs.BehindPlaces.{SaidBehind}
 use Rattle.lines.proofs.LetterAndFeed.{ByLetter, lettered, line_letter, letter_open, begun, fed, unfed, Unsaid, unsaid}
 use Rattle.lines.proofs.CopyingNumbers.{all_said}
 use Rattle.job_text.specs.declared.Line.{Line as Told}
@@ -84,9 +84,6 @@ module _ (text : List ℕ) (at : ℕ) where
     pub said_other_letter : (letter ≡ letter_n → ⊥) → (letter ≡ letter_l → ⊥) → (letter ≡ letter_p → ⊥) → said_at text at ≡ bad
     unfolding said_at
     said_other_letter n l p = ended_bad text at _ (said_of text at ∙ rw (← e) (no_letter letter (numbers_of (fields_behind text (at + 1))) n l p))
-
-    pub letter_within : at < length text
-    letter_within = (letter_here text at (sym e)).0
 
     said_letter : line_end text at ≡ line_end text (at + 1) → said_at text at ≡ said_behind letter text (at + 1)
     unfolding said_at said_behind
@@ -232,9 +229,6 @@ module _ {text : List ℕ} {at source path_from : ℕ} (f : SaidBehind text at s
 module _ {said : Line} {told : Told} {hops : List ℕ} {from : ℕ} (a : LineAs said told hops from) where
   pub told_line : {t : Told} → told ≡ t → said ≡ line_told (path_of said) t
   told_line d = sym a.says ∙ ap (line_told (path_of said)) d
-
-  pub told-path : {source count : ℕ} → told ≡ Packet source count → PathStands count hops from (path_of said)
-  told-path d = rw d at a.stands
 
   pub told_from : {place : ℕ} → from ≡ place → LineAs said told hops place
   told_from e = rw (← e) a

@@ -3,11 +3,11 @@ use Rattle.std.specs.Prelude.{◌≡◌, List, ℕ, ◌+◌, ◌≤◌, length, 
 use Rattle.std.specs.Result.{result_unwrap_or}
 use Rattle.rules.specs.Sizes.{links_most, packets_most, hops_most}
 use Rattle.rules.specs.Network.{Job}
-use Rattle.rules.specs.Outcome.{Outcome, is}
+use Rattle.rules.specs.Outcome.{Outcome}
 use Rattle.job.specs.declared.Job.{Job as Counts}
 use Rattle.job.specs.declared.Refusal.{Refusal}
 use Rattle.job.specs.Lists.{job_of}
-use Rattle.job.specs.Told.{refusal_of}
+use Rattle.job.specs.Told.{outcome_of}
 use Rattle.job_text.specs.declared.Line.{Line}
 use Rattle.job_text.specs.declared.Line.TheVariants.{Nodes, Link, Packet}
 use Rattle.job_text.specs.Told.{Lists, filled}
@@ -19,8 +19,7 @@ so_far c l =
 
 -- an answer, with the lists it stands beside
 abbrev pub job_read : Result Counts Refusal → Lists → Outcome Job
-job_read (Ok counts) l = is (so_far counts l)
-job_read (Err refusal) l = refusal_of refusal
+job_read told l = outcome_of (λ counts. so_far counts l) told
 
 -- the counts with one more line that is taken: a link, or a packet with its hops
 abbrev pub counted_of : Counts → Line → Counts

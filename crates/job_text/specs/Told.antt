@@ -1,5 +1,5 @@
 -- Document 01, "Refusals and their order", Text: what the reader answers, and what the five lists it is lent hold afterwards.
-use Rattle.std.specs.Prelude.{◌≡◌, Bool, ◌&&◌, ◌||◌, List, [], ◌++◌, ℕ, ◌-◌, eqb, leb, length, replicate, Result, Ok, Err}
+use Rattle.std.specs.Prelude.{◌≡◌, Bool, ◌&&◌, ◌||◌, List, [], ◌++◌, ℕ, ◌-◌, eqb, leb, length, replicate, Result}
 use Rattle.counting.specs.Count.{pick}
 use Rattle.rules.specs.Sizes.{text_most, links_most, packets_most, hops_most}
 use Rattle.rules.specs.Network.{Job}
@@ -7,7 +7,7 @@ use Rattle.rules.specs.Outcome.{Outcome, is, refused, must, ◌then◌, onward}
 use Rattle.rules.specs.JobText.{reading}
 use Rattle.job.specs.declared.Job.{Job as Counts}
 use Rattle.job.specs.declared.Refusal.{Refusal}
-use Rattle.job.specs.Told.{refusal_of}
+use Rattle.job.specs.Told.{outcome_of}
 use Rattle.job_text.specs.declared.LentLists.{LentLists}
 
 -- the five lists
@@ -78,8 +78,7 @@ counts_of j =
     record { nodes = j.network.nodes; links = length j.network.origins; packets = length j.sources; hops = length j.hops }
 
 abbrev pub reading_of : Result Counts Refusal → Outcome Counts
-reading_of (Ok counts) = is counts
-reading_of (Err refusal) = refusal_of refusal
+reading_of = outcome_of (λ counts. counts)
 
 -- the answer, and the five lists afterwards
 pub record ReadAs (outcome : Outcome Job) (told : Result Counts Refusal) (lent after : Lists) : Type 0 where

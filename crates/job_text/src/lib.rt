@@ -14,7 +14,7 @@ ghost use Rattle.job_text.specs.LineInText.{said_at, said_behind, line_told, Pat
 ghost use Rattle.job_text.specs.SoFar.{so_far, counted_of, if_fine, Room, Within, Took, front, Fronts};
 
 use job::{Job, JobLists, Network, Refusal, link_verdict};
-use lines::reading::{Lines, begins_at, copy_behind, field_behind, letter_at};
+use lines::reading::{Copied, Lines, Number, begins_at, copy_behind, field_behind, letter_at};
 
 // The five lists that a job is read into, lent by whoever wants it.
 #[derive(Drop)]
@@ -61,7 +61,8 @@ impl LentLists<'_> {
             && self.hops.len() >= Job::HOPS
     }
 
-    // The verdict on one more packet, whose path stands behind the hops so far.
+    // The verdict on one more packet, whose path stands behind the hops so far. It is called, to leave the registers to the loop over lines.
+    #[inline(never)]
     fn packet_verdict(&self, job: Job, source: u16, count: usize, line: u32) -> Result<(), Refusal>
         requires within { Within job }
         requires room { Room (lists_in self.now) }
@@ -109,58 +110,70 @@ struct Found {
 }
 
 // N: one number behind the letter, which ends at this place.
+#[inline(always)]
 fn nodes_at(text: &[u8], at: usize) -> Option<Found>
     ensures { (hops : List ℕ) (from : ℕ) → ToldAs (said_behind letter_n text.now at) text.now at result hops from }
 {
-    let nodes = field_behind(text, at).ok()?;
-    if !begins_at(text, nodes.end, b'\n') {
+    let Number {
+        value: nodes,
+        end: nodes_end,
+    } = field_behind(text, at).ok()?;
+    if !begins_at(text, nodes_end, b'\n') {
         return None;
     }
     Some(Found {
-        line: Line::Nodes(nodes.value),
-        end: nodes.end,
+        line: Line::Nodes(nodes),
+        end: nodes_end,
     })
 }
 
 // L: two numbers.
+#[inline(always)]
 fn link_at(text: &[u8], at: usize) -> Option<Found>
     ensures { (hops : List ℕ) (place : ℕ) → ToldAs (said_behind letter_l text.now at) text.now at result hops place }
 {
-    let from = field_behind(text, at).ok()?;
-    let to = field_behind(text, from.end).ok()?;
-    if !begins_at(text, to.end, b'\n') {
+    let Number {
+        value: from,
+        end: from_end,
+    } = field_behind(text, at).ok()?;
+    let Number {
+        value: to,
+        end: to_end,
+    } = field_behind(text, from_end).ok()?;
+    if !begins_at(text, to_end, b'\n') {
         return None;
     }
     Some(Found {
-        line: Line::Link {
-            from: from.value,
-            to: to.value,
-        },
-        end: to.end,
+        line: Line::Link { from, to },
+        end: to_end,
     })
 }
 
 // P: a source, and a path that is copied into the hops from a place on.
+#[inline(always)]
 #[tactic(auto, using(crate::proofs::OneLine::stays))]
 fn packet_at(text: &[u8], at: usize, hops: &mut [u16], from: usize) -> Option<Found>
     ensures told { ToldAs (said_behind letter_p text.now at) text.now at result hops.new from }
     ensures before { take from hops.new ≡ take from hops.old }
 {
-    let source = field_behind(text, at).ok()?;
-    let path = copy_behind(text, source.end, hops, from)?;
-    if path.end >= text.len() {
+    let Number {
+        value: source,
+        end: source_end,
+    } = field_behind(text, at).ok()?;
+    let Copied { count, end } = copy_behind(text, source_end, hops, from)?;
+    if end >= text.len() {
         return None;
     }
     Some(Found {
-        line: Line::Packet {
-            source: source.value,
-            count: path.count,
-        },
-        end: path.end,
+        line: Line::Packet { source, count },
+        end,
     })
 }
 
-// The line that begins at a place. A packet's path is copied into the hops from a place on, and those before it stay.
+// The line that begins at a place. A packet's path is copied into the hops from a place on, and those before it stay. It and the three
+// above become part of the loop over the lines, and that stands by itself: else None's zeros are made at each digit, and what the loop
+// needs at each byte is not kept in registers. Reading took a fifth longer on a text of links.
+#[inline(always)]
 fn line_at(text: &[u8], at: usize, hops: &mut [u16], from: usize) -> Option<Found>
     ensures told { ToldAs (said_at text.now at) text.now at result hops.new from }
     ensures before { take from hops.new ≡ take from hops.old }
@@ -172,6 +185,9 @@ fn line_at(text: &[u8], at: usize, hops: &mut [u16], from: usize) -> Option<Foun
         _ => None,
     }
 }
+
+// The counts and the lists of the job so far are two arguments, with what is known of them in each contract: a struct that held the lists
+// as `&mut` would owe in each that they are the same references, a clause for each that its ghost fields saved.
 
 // L: one more link.
 fn add_link(line: u32, job: Job, from: u16, to: u16, lists: &mut LentLists) -> Result<(), Refusal>
@@ -261,7 +277,8 @@ fn counted(job: Job, told: Line) -> Job
     }
 }
 
-// The lines from a cursor on.
+// The lines from a cursor on, which goes from line to line by `moved`: document 01 names this form.
+#[inline(never)]
 fn add_lines(text: &[u8], first: Lines, begun: Job, lists: &mut LentLists) -> Result<Job, Refusal>
     requires within { Within begun }
     requires room { Room (lists_in lists.old) }
@@ -291,10 +308,7 @@ fn first_line(told: Line) -> Result<Job, Refusal>
     let Line::Nodes(nodes) = told else {
         return Err(Refusal::BadForm(1));
     };
-    if nodes < 1 {
-        return Err(Refusal::Size(1));
-    }
-    if usize::from(nodes) > Job::NODES {
+    if nodes < 1 || usize::from(nodes) > Job::NODES {
         return Err(Refusal::Size(1));
     }
     Ok(Job {
@@ -329,6 +343,14 @@ fn clear(list: &mut [u16], from: usize)
     list[kept..].fill(0);
 }
 
+// The counts of what stays of a text that is refused.
+const NOTHING: Job = Job {
+    nodes: 0,
+    links: 0,
+    packets: 0,
+    hops: 0,
+};
+
 // The text, in lists that have room. Nothing stays in them of a text that is refused.
 fn fill(text: &[u8], lists: &mut LentLists) -> Result<Job, Refusal>
     requires short { length text.now ≤ text_most }
@@ -354,11 +376,3 @@ pub fn read(text: &[u8], lists: &mut LentLists) -> Result<Job, Refusal>
     }
     fill(text, lists)
 }
-
-// The counts of what stays of a text that is refused.
-const NOTHING: Job = Job {
-    nodes: 0,
-    links: 0,
-    packets: 0,
-    hops: 0,
-};
