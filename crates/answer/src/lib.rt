@@ -16,7 +16,7 @@ use plan_text::from_text;
 // Every plan fits in so many bytes.
 pub const ROOM: usize = Job::PLAN;
 
-// It is the number that the rules name.
+// It is the number that the rules name. `Job::sizes` says so of the job's constant, and this of the room that `print` is lent.
 pub fn plan_most() -> usize
     ensures { result ≡ plan_most }
 {
@@ -37,6 +37,7 @@ pub fn print(text: &[u8], room: &mut [u8; ROOM]) -> usize
     ensures near { result ≤ length room.new }
 {
     match from_text::answer(text, room) {
+        // std has no `usize::from` for 32 bits
         Ok(bytes) => bytes as usize,
         Err(refusal) => refusal_line(room, b'R', refusal),
     }

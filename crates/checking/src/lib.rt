@@ -36,6 +36,7 @@ fn checked_plan(lists: &JobLists, plan: &[u8], starts: &mut [u16]) -> Result<Opt
 pub fn check(job: &[u8], plan: &[u8]) -> Result<Option<Clash>, Refused>
     ensures { texts_of result ≡ checked_texts job.now plan.now }
 {
+    // as in plan_text, array by array: the check covers no function that lends all parts of one struct
     let mut origins = [0; Job::LINKS];
     let mut ends = [0; Job::LINKS];
     let mut sources = [0; Job::PACKETS];

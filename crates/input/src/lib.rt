@@ -33,6 +33,7 @@ pub fn read_all<R: Read>(reader: &mut R, text: &mut [u8]) -> Result<usize, Unrea
     ensures to_the_end { IfOk result (λ bytes. bytes < length text.new → IsAtEnd (R.remaining reader.new)) }
 {
     let mut bytes = 0;
+    // no `for`: a read says how far it goes
     while bytes < text.len() {
         match reader.read(&mut text[bytes..]) {
             Ok(0) => break,
@@ -54,6 +55,7 @@ pub fn tell_failure<W: Write>(out: &mut W, what: &[u8], error: io::Error) -> io:
 {
     let mut text = Cursor::new([0u8; WORDS]);
     let _ = write!(text, "{error}");
+    // std has no `usize::from` for 64 bits
     let length = (text.position() as usize).min(WORDS);
     let bytes = text.into_inner();
     let text = str::from_utf8(&bytes[..length]).unwrap_or("");

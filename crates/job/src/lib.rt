@@ -261,6 +261,7 @@ impl Network<'_> {
         ensures { verdict_of result ≡ links_verdict self.now.nodes 0 self.now.origins.now self.now.ends.now }
     {
         for (l, (&from, &to)) in self.origins.iter().zip(self.ends).enumerate() {
+            // `as` here and below: a proof shows that it fits, and `try_from` would make a case of what cannot be
             link_verdict(self.nodes, from, to, l as u32)?;
         }
         Ok(())

@@ -238,6 +238,7 @@ fn add_packet(
     }
     lists.packet_verdict(job, source, count, line)?;
     lists.sources[packets] = source;
+    // `as` here and below: a proof shows that it fits, and `try_from` would make a case of what cannot be
     lists.stops[packets] = (from + count) as u16;
     Ok(())
 }

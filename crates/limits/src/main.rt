@@ -45,6 +45,7 @@ fn total(starts: &[u16]) -> u64 {
 fn number(i: usize) -> u16
     requires { i < 65536 }
 {
+    // `as` here and below: a proof shows that it fits, and `try_from` would make a case of what cannot be
     i as u16
 }
 

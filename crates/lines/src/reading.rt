@@ -121,6 +121,7 @@ fn number_at(text: &[u8], begin: usize) -> Result<Number, Absent>
     if end - begin > 1 && first == ZERO {
         return Err(Absent::NoNumber);
     }
+    // `as`: a proof shows that it fits, and `try_from` would make a case of what cannot be
     Ok(Number {
         value: value as u16,
         end,
@@ -155,6 +156,7 @@ pub fn copy_behind(text: &[u8], at: usize, list: &mut [u16], from: usize) -> Opt
     let mut place = at;
     let mut count = 0;
     let mut next = from;
+    // no `while let`: each of the two reasons for no number has an answer of its own
     loop {
         match field_behind(text, place) {
             Ok(Number { value, end }) => {

@@ -27,6 +27,7 @@ fn number(room: &mut [u8], at: usize, n: u32) -> usize
     ensures put { Put room.old at (decimal n) room.new result }
     ensures near { result ≤ at + 10 }
 {
+    // `as`: a proof shows that it fits, and `try_from` would make a case of what cannot be
     if n < 10 {
         byte(room, at, b'0' + n as u8)
     } else {
@@ -51,6 +52,7 @@ pub fn line<const N: usize>(room: &mut [u8], at: u32, letter: u8, numbers: [u32;
     ensures put { Put room.old at (line_told N letter numbers.entry) room.new result }
     ensures near { result ≤ at + longest_line N }
 {
+    // std has no `usize::from` for 32 bits
     if N >= NUMBERS_MOST {
         return at as usize;
     }

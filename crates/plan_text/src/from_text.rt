@@ -12,6 +12,7 @@ use planner::from_text::read_and_plan;
 pub fn answer(text: &[u8], room: &mut [u8]) -> Result<u32, Refusal>
     ensures { WrittenAs (answered text.now (length room.old)) result room.old room.new }
 {
+    // as in checking, array by array: the check covers no function that lends all parts of one struct
     let mut origins = [0; Job::LINKS];
     let mut ends = [0; Job::LINKS];
     let mut sources = [0; Job::PACKETS];

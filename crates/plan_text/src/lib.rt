@@ -111,6 +111,7 @@ impl Plan<'_> {
     {
         let mut at = 0;
         for (k, &start) in self.starts.iter().enumerate() {
+            // `as` here and below: a proof shows that it fits, and `try_from` would make a case of what cannot be
             let numbers = [k as u32, u32::from(start), self.end(k).0];
             at = writing::line(room, at as u32, b'S', numbers);
         }

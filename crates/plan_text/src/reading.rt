@@ -84,6 +84,7 @@ fn rows_at(plan: &[u8], place: Lines, starts: &mut [u16], ends: &mut [u16]) -> R
 {
     let mut next = place;
     let mut count = 0;
+    // no `for`: the cursor goes on by `moved`, a form that document 01 names
     while begins_at(plan, next.at, b'S') {
         let bad_form = Refusal::BadForm(next.line);
         let row = line_at(plan, next, b'S').ok_or(bad_form)?;
@@ -158,10 +159,12 @@ fn rows_verdict(plan: &Plan, ends: &[u16]) -> Result<(), Refusal>
     ensures { verdict_of result ≡ rows_verdict one_step 1 (rows_in plan.now.starts.now ends.now) (paths (job_in plan.now.lists)) }
 {
     for (k, &start) in plan.starts.iter().enumerate() {
+        // `as`: a proof shows that it fits, and `try_from` would make a case of what cannot be
         let line = k as u32 + 1;
         if start > Job::START {
             return Err(Refusal::LateStart(line));
         }
+        // by index, since the end of packet k is asked for too: a `zip` would bring the other number alone
         if u32::from(ends[k]) != plan.end(k).0 {
             return Err(Refusal::NotFollowing(line));
         }

@@ -139,6 +139,7 @@ impl Entries {
         for &link in path {
             let at = self.nexts[usize::from(link)];
             let step = Step::of(start, Hop(offset));
+            // `as`: a proof shows that it fits, and `try_from` would make a case of what cannot be
             self.steps[usize::from(at)] = step.0 as u16;
             self.nexts[usize::from(link)] = at + 1;
             offset = offset_after(offset, link);

@@ -34,6 +34,7 @@ pub fn enters(path: &[u16], start: u16, link: u16, step: Step) -> bool
     if step.0 < begun {
         return false;
     }
+    // std has no `usize::from` for 32 bits
     let hop = (step.0 - begun) as usize;
     hop < path.len() && path[hop] == link
 }
@@ -49,6 +50,7 @@ fn start_each(paths: &Paths, starts: &mut [u16], entries: &mut Entries, words: &
         let path = paths.path(k);
         // no start lies further than there are hops before it
         let enough = paths.begin(k) / 64 + 1;
+        // `as`: a proof shows that it fits, and `try_from` would make a case of what cannot be
         let start = entries.search(path, &mut words[0..enough]) as u16;
         starts[k] = start;
         entries.enter(path, start);

@@ -89,6 +89,7 @@ fn cut_at_repeats(
     let mut shorter = false;
     for link in 0..links {
         if let Some(repeat) = cut(firsts[link], nexts[link], steps, words) {
+            // `as`: a proof shows that it fits, and `try_from` would make a case of what cannot be
             nexts[link] = firsts[link] + repeat as u16;
             shorter = true;
         }

@@ -55,6 +55,7 @@ impl Started<'_> {
         let packet = usize::from(k);
         let start = *self.starts.get(packet)?;
         let hop = hop_of(self.paths.path(packet), link)?;
+        // `as` here and below: a proof shows that it fits, and `try_from` would make a case of what cannot be
         Some(Step::of(start, Hop(hop as u16)))
     }
 

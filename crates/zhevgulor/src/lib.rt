@@ -120,6 +120,7 @@ fn planned(lists: &JobLists, starts: &mut [u16]) -> Result<u32, Refusal>
     ensures { WrittenAs (planned (job_in lists.now) (length starts.old)) result starts.old starts.new }
 {
     planner::plan(lists, starts)?;
+    // `as` here and below: a proof shows that it fits, and `try_from` would make a case of what cannot be
     Ok(lists.sources.len() as u32)
 }
 
