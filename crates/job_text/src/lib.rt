@@ -109,7 +109,8 @@ struct Found {
     end: usize,
 }
 
-// N: one number behind the letter, which ends at this place.
+// N: one number behind the letter, which ends at this place. It, `link_at` and the three numbers of a plan's line are no one function for
+// N numbers: `?` leaves a line for each number, with its name, and one for all would hand them out by places.
 #[inline(always)]
 fn nodes_at(text: &[u8], at: usize) -> Option<Found>
     ensures { (hops : List ℕ) (from : ℕ) → ToldAs (said_behind letter_n text.now at) text.now at result hops from }
