@@ -53,9 +53,10 @@ impl Job {
 }
 
 // Words with a bit for each node of a job.
-const NODE_WORDS: usize = 16;
+const NODE_WORDS: usize = Job::NODES / 64;
 
-// A position along a path. It and the step are tuple structs: document 01 names this form.
+// A position along a path, or the one behind its last hop, which is how many it has. It and the step are tuple structs: document 01 names
+// this form.
 #[derive(Clone, Copy, Debug, PartialEq, Eq)]
 pub struct Hop(pub u16);
 
@@ -93,7 +94,8 @@ pub enum Refusal {
 }
 
 impl Refusal {
-    // The number that the papers give it, by document 01, and by document 02 for those of its requests, and its place: 0 where it has none.
+    // The number that the papers give it, by document 01, and by document 02 for those of its requests, and its place. That is 0, and
+    // no `None`, where it has none: document 01 says so.
     fn number_place(self) -> (u32, u32)
         ensures { result ≡ number_place self }
     {

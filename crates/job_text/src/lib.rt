@@ -14,7 +14,7 @@ ghost use Rattle.job_text.specs.LineInText.{said_at, said_behind, line_told, Pat
 ghost use Rattle.job_text.specs.SoFar.{so_far, counted_of, if_fine, Room, Within, Took, front, Fronts};
 
 use job::{Job, JobLists, Network, Refusal, link_verdict};
-use lines::reading::{Copied, Lines, Number, begins_at, copy_behind, field_behind, letter_at};
+use lines::reading::{Copied, Lines, begins_at, copy_behind, field_behind, letter_at};
 
 // The five lists that a job is read into, lent by whoever wants it.
 #[derive(Drop)]
@@ -115,16 +115,13 @@ struct Found {
 fn nodes_at(text: &[u8], at: usize) -> Option<Found>
     ensures { (hops : List ℕ) (from : ℕ) → ToldAs (said_behind letter_n text.now at) text.now at result hops from }
 {
-    let Number {
-        value: nodes,
-        end: nodes_end,
-    } = field_behind(text, at).ok()?;
-    if !begins_at(text, nodes_end, b'\n') {
+    let nodes = field_behind(text, at).ok()?;
+    if !begins_at(text, nodes.end, b'\n') {
         return None;
     }
     Some(Found {
-        line: Line::Nodes(nodes),
-        end: nodes_end,
+        line: Line::Nodes(nodes.value),
+        end: nodes.end,
     })
 }
 
@@ -133,20 +130,17 @@ fn nodes_at(text: &[u8], at: usize) -> Option<Found>
 fn link_at(text: &[u8], at: usize) -> Option<Found>
     ensures { (hops : List ℕ) (place : ℕ) → ToldAs (said_behind letter_l text.now at) text.now at result hops place }
 {
-    let Number {
-        value: from,
-        end: from_end,
-    } = field_behind(text, at).ok()?;
-    let Number {
-        value: to,
-        end: to_end,
-    } = field_behind(text, from_end).ok()?;
-    if !begins_at(text, to_end, b'\n') {
+    let from = field_behind(text, at).ok()?;
+    let to = field_behind(text, from.end).ok()?;
+    if !begins_at(text, to.end, b'\n') {
         return None;
     }
     Some(Found {
-        line: Line::Link { from, to },
-        end: to_end,
+        line: Line::Link {
+            from: from.value,
+            to: to.value,
+        },
+        end: to.end,
     })
 }
 
@@ -157,16 +151,16 @@ fn packet_at(text: &[u8], at: usize, hops: &mut [u16], from: usize) -> Option<Fo
     ensures told { ToldAs (said_behind letter_p text.now at) text.now at result hops.new from }
     ensures before { take from hops.new ≡ take from hops.old }
 {
-    let Number {
-        value: source,
-        end: source_end,
-    } = field_behind(text, at).ok()?;
-    let Copied { count, end } = copy_behind(text, source_end, hops, from)?;
+    let source = field_behind(text, at).ok()?;
+    let Copied { count, end } = copy_behind(text, source.end, hops, from)?;
     if end >= text.len() {
         return None;
     }
     Some(Found {
-        line: Line::Packet { source, count },
+        line: Line::Packet {
+            source: source.value,
+            count,
+        },
         end,
     })
 }
@@ -303,6 +297,14 @@ fn add_lines(text: &[u8], first: Lines, begun: Job, lists: &mut LentLists) -> Re
     Ok(job)
 }
 
+// The counts of nothing that was read, or that stays of a text that is refused.
+const NOTHING: Job = Job {
+    nodes: 0,
+    links: 0,
+    packets: 0,
+    hops: 0,
+};
+
 // The job of the first line alone, which is N's.
 fn first_line(told: Line) -> Result<Job, Refusal>
     ensures { (path : List ℕ) (l : Lists) → Took (first_line (line_told path told)) result l }
@@ -310,15 +312,10 @@ fn first_line(told: Line) -> Result<Job, Refusal>
     let Line::Nodes(nodes) = told else {
         return Err(Refusal::BadForm(1));
     };
-    if nodes < 1 || usize::from(nodes) > Job::NODES {
+    if !(1..=Job::NODES).contains(&usize::from(nodes)) {
         return Err(Refusal::Size(1));
     }
-    Ok(Job {
-        nodes,
-        links: 0,
-        packets: 0,
-        hops: 0,
-    })
+    Ok(Job { nodes, ..NOTHING })
 }
 
 // All lines, from the top. After a refusal the lists may hold anything.
@@ -344,14 +341,6 @@ fn clear(list: &mut [u16], from: usize)
     let kept = from.min(list.len());
     list[kept..].fill(0);
 }
-
-// The counts of what stays of a text that is refused.
-const NOTHING: Job = Job {
-    nodes: 0,
-    links: 0,
-    packets: 0,
-    hops: 0,
-};
 
 // The text, in lists that have room. Nothing stays in them of a text that is refused.
 fn fill(text: &[u8], lists: &mut LentLists) -> Result<Job, Refusal>

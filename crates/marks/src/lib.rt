@@ -9,7 +9,7 @@ ghost use Rattle.counting.specs.Count.{pick};
 ghost use Rattle.marks.specs.Marks.{marked, unmarked, with_mark, wiped, with_start, with_starts, FirstUnmarked};
 
 // As many words as have the numbers below the bound, so that the answer is small however many words are lent.
-const WORDS: usize = 1024;
+const WORDS: usize = 65536 / 64;
 
 // Takes every mark away.
 #[tactic(auto, unfolding(crate::specs::Marks::unmarked))]
@@ -110,11 +110,9 @@ pub fn wipe(words: &mut [u64], n: usize)
 fn mark_start(word: Word, step: u16, offset: usize, words: &mut [u64]) -> Word
     ensures { set words.new result.at result.bits ≡ with_start offset step (set words.old word.at word.bits) }
 {
-    let at = usize::from(step);
-    if at < offset {
+    let Some(n) = usize::from(step).checked_sub(offset) else {
         return word;
-    }
-    let n = at - offset;
+    };
     word.change(n, words).with_mark(n)
 }
 
@@ -130,7 +128,7 @@ pub fn mark_starts(steps: &[u16], offset: usize, words: &mut [u64])
 }
 
 // The first number without a mark: the lowest bit that is not set in the first word that is not full.
-// Where there is none it is the bound, and no `None`: so FirstUnmarked promises it.
+// Where there is none it is the bound, and no `None`: `FirstUnmarked` says so, the public promise that docs/PROMISES.md names.
 pub fn first_unmarked(words: &[u64]) -> usize
     ensures { FirstUnmarked words.now result }
 {
