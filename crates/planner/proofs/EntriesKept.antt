@@ -87,9 +87,9 @@ module _ (stops hops starts : List ℕ) (k : ℕ) (simple : SimplePaths stops ho
 
   -- its search is lent words enough
   pub words_lent : (words : List ℕ) (from : ℕ) → from ≡ begin_from 0 stops k → hops_most < 64 * length words
-      → length (take (from / 64 + 1 - 0) words) ≡ begin_from 0 stops k / 64 + 1
+      → length (take (from / 64 + 1) words) ≡ begin_from 0 stops k / 64 + 1
   words_lent words from e h =
-      let z : from / 64 + 1 - 0 ≡ begin_from 0 stops k / 64 + 1 = omega (arith, e) in
+      let z : from / 64 + 1 ≡ begin_from 0 stops k / 64 + 1 = omega (arith, e) in
       rw z (length-take-le (begin_from 0 stops k / 64 + 1) words (omega (arith, begin_within, h)))
 
   -- and finds its links' parts

@@ -40,18 +40,18 @@ one-more-total (x ∷ xs) (suc i) h = omega (arith, one-more-total xs i (le_of_s
 
 -- ---- the loads, before hop i is counted: with the hops that are left they are the whole
 
-pub record Counted (hops before loads : List ℕ) (i : ℕ) : Type 0 where
+pub record CountedTo (hops before loads : List ℕ) (i : ℕ) : Type 0 where
   pub near : i ≤ length hops
   pub long : length loads ≡ length before
   pub sum : total loads ≡ total before + i
   pub each : (link : ℕ) → get_or loads link 0 + occurs link (drop i hops) ≡ get_or before link 0 + occurs link hops
 
-module _ {hops before loads : List ℕ} {i : ℕ} (w : Counted hops before loads i) where
+module _ {hops before loads : List ℕ} {i : ℕ} (w : CountedTo hops before loads i) where
   pub counted_le : (link : ℕ) → get_or loads link 0 ≤ total before + i
   counted_le link = omega (arith, le_total loads link)
 
   pub counted_turn : {link : ℕ} → i < length hops → link ≡ get_or hops i 0 → link < length loads
-      → Counted hops before (set loads link (get_or loads link 0 + 1)) (i + 1)
+      → CountedTo hops before (set loads link (get_or loads link 0 + 1)) (i + 1)
   counted_turn {link} h e l = record {
     near = omega arith;
     long = length-set loads link _ ∙ w.long;
