@@ -13,7 +13,7 @@ use borrow.Author.Tests.{eq-eqb}
 use Rattle.counting.specs.Count.{occurs}
 use Rattle.counting.proofs.Sums.{sum_take-le}
 use Rattle.counting.proofs.Places.{from_place, one-more_at}
-use Rattle.planner.specs.Entries.{Below, Rooms, total}
+use Rattle.planner.specs.Entries.{Below, Rooms, total, Counted, AllZero}
 
 -- ---- the sum of a list, and of its front
 
@@ -29,7 +29,7 @@ total-front-suc (x ∷ xs) (suc n) = omega (arith, total-front-suc xs n)
 le_total : (xs : List ℕ) (i : ℕ) → get_or xs i 0 ≤ total xs
 le_total xs i = omega (arith, total-front-suc xs i, sum_take-le (λ x. x) (suc i) xs)
 
-pub no_total : (xs : List ℕ) → ((i : ℕ) → get_or xs i 0 ≡ 0) → total xs ≡ 0
+pub no_total : (xs : List ℕ) → AllZero xs → total xs ≡ 0
 no_total [] none = refl
 no_total (x ∷ xs) none = omega (arith, none 0, no_total xs (λ i. none (suc i)))
 
@@ -144,8 +144,7 @@ occurs_at [] i h = absurd (not-suc-le-zero h)
 occurs_at (link ∷ hops) zero h = rw (eq-eqb link link refl) (omega arith)
 occurs_at (link ∷ hops) (suc i) h = omega (arith, occurs_at hops i (le_of_suc-le-suc h))
 
-module _ (hops before loads : List ℕ) (none : (link : ℕ) → get_or before link 0 ≡ 0)
-    (counted : (link : ℕ) → get_or loads link 0 ≡ get_or before link 0 + occurs link hops) where
+module _ (hops before loads : List ℕ) (none : AllZero before) (counted : Counted hops before loads) where
   load : (link : ℕ) → get_or loads link 0 ≡ occurs link hops
   load link = omega (arith, none link, counted link)
 

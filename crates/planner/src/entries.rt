@@ -16,7 +16,7 @@ use crate::repeats::{cut_at_repeats, first_beyond};
 use job::{Hop, Job, Step};
 
 // Adds to each link's load how often it stands among the hops.
-// `Below` is a clause and no struct's fact: it ties the hops, which are read, to the length of a list that is lent for writing.
+// `Below` is a clause and no struct's fact: each function ties its hops to another number, here to the length of the loads, which are lent.
 fn count(hops: &[u16], loads: &mut [u16])
     requires { Below hops.now (length loads.old) × (total loads.old + length hops.now ≤ widest) }
     ensures by_index { Counted hops.now loads.old loads.new }
@@ -49,8 +49,8 @@ fn open(places: usize, firsts: &mut [u16], nexts: &mut [u16]) -> usize
     link
 }
 
-// How long after its start a packet enters the link that comes after this one: 1 more for every link now. What a link costs goes in here, so
-// no loop over a path counts by `enumerate`.
+// How long after its start a packet enters the link that comes after this one.
+// 1 more for every link now. What a link costs goes in here, by the link that isn't read yet; so no loop over a path counts by `enumerate`.
 fn offset_after(offset: u16, link: u16) -> u16
     requires { offset < widest }
     ensures { result ≡ offset + one_step link }

@@ -1,5 +1,5 @@
 -- Each turn starts the next packet at the first free step; past the last all greedy starts are written.
-use Rattle.std.proofs.Common.{◌≡◌, ◌+◌, ◌-◌, ◌/◌, length, take, ◌∙◌, sym, length-take, arith}
+use Rattle.std.proofs.Common.{◌≡◌, ◌+◌, ◌/◌, length, take, ◌∙◌, sym, length-take, arith}
 use Rattle.planner.specs.PacketsInLists.{begin_from}
 use Rattle.planner.proofs.Filling.{start_at, one_more, all_written}
 use Rattle.planner.proofs.Searching.{start-le_begin}
