@@ -15,7 +15,7 @@ use Rattle.counting.proofs.Places.{from_place, one-more_at}
 use Rattle.rules.specs.Travel.{one_step}
 use Rattle.rules.specs.Claims.{link_claims, place}
 use Rattle.planner.specs.PacketsInLists.{path_claims}
-use Rattle.planner.specs.Entries.{steps_on, Rooms, RoomFor}
+use Rattle.planner.specs.Entries.{steps_on, Rooms, RoomFor, Counted}
 use Rattle.planner.specs.Again.{steps_at}
 use Rattle.planner.specs.EntriesAdded.{claim_steps, EntriesAdded}
 use Rattle.planner.proofs.StepsInOrder.{steps_at-append}
@@ -106,7 +106,7 @@ module _ {links all nexts₀ steps₀ nexts steps : List ℕ} where
   -- the front of what is left is entered
   pub entered_turn : (front now_steps rest later : List ℕ) {nexts' steps' : List ℕ} → EnteredSoFar links all nexts₀ steps₀ (front ++ rest) (now_steps ++ later) nexts steps
       → length front ≡ length now_steps → length nexts' ≡ length nexts → length steps' ≡ length steps
-      → ((link : ℕ) → get_or nexts' link 0 ≡ get_or nexts link 0 + occurs link front) → EntriesAdded front now_steps nexts steps nexts' steps'
+      → Counted front nexts nexts' → EntriesAdded front now_steps nexts steps nexts' steps'
       → EnteredSoFar links all nexts₀ steps₀ rest later nexts' steps'
   entered_turn front now_steps rest later so_far e n s more added = record {
     nexts_length = n ∙ so_far.nexts_length;
@@ -126,7 +126,7 @@ module _ {links all nexts₀ steps₀ nexts steps : List ℕ} where
     unfolding steps_at
     entered_done room firsts rooms free link = sym (append-nil (steps_on firsts nexts steps link)) ∙ so_far.entries room firsts rooms free link
 
-    pub nexts_done : (link : ℕ) → get_or nexts link 0 ≡ get_or nexts₀ link 0 + occurs link links
+    pub nexts_done : Counted links nexts₀ nexts
     nexts_done link = omega (arith, so_far.counts link)
 
 -- ---- along a path

@@ -20,7 +20,7 @@ use Rattle.theorems.proofs.Accepted.{length-paths_from}
 use Rattle.theorems.proofs.HopsOnPaths.{mem-paths}
 use Rattle.marks.specs.Marks.{numbers_most}
 use Rattle.planner.specs.PacketsInLists.{SimplePaths, path_claims, begin_from, path_at, before}
-use Rattle.planner.specs.Entries.{Below, steps_on, entered, Parts, Searchable, FoundAmong, Rooms, RoomFor, Enterable, EntriesBefore}
+use Rattle.planner.specs.Entries.{Below, steps_on, entered, Parts, Searchable, FoundAmong, Rooms, RoomFor, Enterable, EntriesBefore, Counted}
 use Rattle.planner.specs.Again.{steps_at}
 use Rattle.planner.specs.EntriesAdded.{claim_steps, EntriesAdded}
 use Rattle.planner.proofs.PathParts.{part}
@@ -87,9 +87,9 @@ module _ (stops hops starts : List ℕ) (k : ℕ) (simple : SimplePaths stops ho
 
   -- its search is lent words enough
   pub words_lent : (words : List ℕ) (from : ℕ) → from ≡ begin_from 0 stops k → hops_most < 64 * length words
-      → length (take (from / 64 + 1 - 0) words) ≡ begin_from 0 stops k / 64 + 1
+      → length (take (from / 64 + 1) words) ≡ begin_from 0 stops k / 64 + 1
   words_lent words from e h =
-      let z : from / 64 + 1 - 0 ≡ begin_from 0 stops k / 64 + 1 = omega (arith, e) in
+      let z : from / 64 + 1 ≡ begin_from 0 stops k / 64 + 1 = omega (arith, e) in
       rw z (length-take-le (begin_from 0 stops k / 64 + 1) words (omega (arith, begin_within, h)))
 
   -- and finds its links' parts
@@ -148,7 +148,7 @@ module _ (stops hops starts : List ℕ) (k s : ℕ) (l : k < length stops) (room
 
   module _ (simple : SimplePaths stops hops) (firsts nexts steps : List ℕ) (c : EntriesBefore stops hops starts k firsts nexts steps)
       (path : List ℕ) (is_path : path ≡ path_at stops hops k) (nexts' steps' : List ℕ) (same_nexts : length nexts' ≡ length nexts) (same_steps : length steps' ≡ length steps) where
-    pub entries_next : ((link : ℕ) → get_or nexts' link 0 ≡ get_or nexts link 0 + occurs link path)
+    pub entries_next : Counted path nexts nexts'
         → EntriesAdded path (claim_steps (place s (path_claims path))) nexts steps nexts' steps'
         → EntriesBefore stops hops (set starts k s) (k + 1) firsts nexts' steps'
     entries_next more added = record {

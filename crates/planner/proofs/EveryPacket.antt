@@ -22,7 +22,7 @@ use Rattle.rules.specs.Claims.{place}
 use Rattle.theorems.proofs.Accepted.{length-paths_from, hops_from}
 use Rattle.marks.specs.Marks.{unmarked}
 use Rattle.planner.specs.PacketsInLists.{SimplePaths, InTime, OnPath, path_claims, begin_from, path_at, packets}
-use Rattle.planner.specs.Entries.{widest, Below, OnLinks, steps_on, Enterable, EntriesBefore}
+use Rattle.planner.specs.Entries.{widest, Below, OnLinks, steps_on, Enterable, EntriesBefore, Counted}
 use Rattle.planner.specs.Again.{InOrder}
 use Rattle.planner.specs.Cuts.{Cuttable}
 use Rattle.planner.specs.EntriesAdded.{claim_steps, all_steps, EntriesAdded}
@@ -120,7 +120,7 @@ module _ {stops hops starts nexts₀ steps₀ nexts steps : List ℕ} {k : ℕ} 
     )
 
     pub each_turn : {nexts' steps' : List ℕ} → length nexts' ≡ length nexts → length steps' ≡ length steps
-        → ((link : ℕ) → get_or nexts' link 0 ≡ get_or nexts link 0 + occurs link path)
+        → Counted path nexts nexts'
         → EntriesAdded path (claim_steps (place start (path_claims path))) nexts steps nexts' steps'
         → EnteredToPacket stops hops starts nexts₀ steps₀ nexts' steps' (k + 1)
     unfolding all_steps
@@ -137,7 +137,7 @@ module _ {stops hops starts nexts₀ steps₀ nexts steps : List ℕ} {k : ℕ} 
     pub each_added : EntriesAdded hops (all_steps (packets stops hops starts)) nexts₀ steps₀ nexts steps
     each_added = entered_done none_left
 
-    pub each_counted : (link : ℕ) → get_or nexts link 0 ≡ get_or nexts₀ link 0 + occurs link hops
+    pub each_counted : Counted hops nexts₀ nexts
     each_counted = nexts_done none_left
 
 -- ---- from rooms that nobody has entered
@@ -163,7 +163,7 @@ module _ {stops hops starts firsts nexts steps : List ℕ} (simple : SimplePaths
   )
 
   module _ {nexts' steps' : List ℕ} (same_nexts : length nexts' ≡ length nexts) (same_steps : length steps' ≡ length steps)
-      (more : (link : ℕ) → get_or nexts' link 0 ≡ get_or nexts link 0 + occurs link hops) where
+      (more : Counted hops nexts nexts') where
     -- and then each link's entries stand in the order of the hops
     pub entries_in_order : EntriesAdded hops (all_steps (packets stops hops starts)) nexts steps nexts' steps'
         → InOrder hops (all_steps (packets stops hops starts)) firsts nexts' steps'

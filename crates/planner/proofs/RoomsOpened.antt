@@ -13,7 +13,7 @@ use borrow.Author.Tests.{eq-eqb}
 use Rattle.counting.specs.Count.{occurs}
 use Rattle.counting.proofs.Sums.{sum_take-le}
 use Rattle.counting.proofs.Places.{from_place, one-more_at}
-use Rattle.planner.specs.Entries.{Below, Rooms, total}
+use Rattle.planner.specs.Entries.{Below, Rooms, total, Counted, AllZero}
 
 -- ---- the sum of a list, and of its front
 
@@ -29,7 +29,7 @@ total-front-suc (x ∷ xs) (suc n) = omega (arith, total-front-suc xs n)
 le_total : (xs : List ℕ) (i : ℕ) → get_or xs i 0 ≤ total xs
 le_total xs i = omega (arith, total-front-suc xs i, sum_take-le (λ x. x) (suc i) xs)
 
-pub no_total : (xs : List ℕ) → ((i : ℕ) → get_or xs i 0 ≡ 0) → total xs ≡ 0
+pub no_total : (xs : List ℕ) → AllZero xs → total xs ≡ 0
 no_total [] none = refl
 no_total (x ∷ xs) none = omega (arith, none 0, no_total xs (λ i. none (suc i)))
 
@@ -40,18 +40,18 @@ one-more-total (x ∷ xs) (suc i) h = omega (arith, one-more-total xs i (le_of_s
 
 -- ---- the loads, before hop i is counted: with the hops that are left they are the whole
 
-pub record Counted (hops before loads : List ℕ) (i : ℕ) : Type 0 where
+pub record CountedTo (hops before loads : List ℕ) (i : ℕ) : Type 0 where
   pub near : i ≤ length hops
   pub long : length loads ≡ length before
   pub sum : total loads ≡ total before + i
   pub each : (link : ℕ) → get_or loads link 0 + occurs link (drop i hops) ≡ get_or before link 0 + occurs link hops
 
-module _ {hops before loads : List ℕ} {i : ℕ} (w : Counted hops before loads i) where
+module _ {hops before loads : List ℕ} {i : ℕ} (w : CountedTo hops before loads i) where
   pub counted_le : (link : ℕ) → get_or loads link 0 ≤ total before + i
   counted_le link = omega (arith, le_total loads link)
 
   pub counted_turn : {link : ℕ} → i < length hops → link ≡ get_or hops i 0 → link < length loads
-      → Counted hops before (set loads link (get_or loads link 0 + 1)) (i + 1)
+      → CountedTo hops before (set loads link (get_or loads link 0 + 1)) (i + 1)
   counted_turn {link} h e l = record {
     near = omega arith;
     long = length-set loads link _ ∙ w.long;
@@ -144,8 +144,7 @@ occurs_at [] i h = absurd (not-suc-le-zero h)
 occurs_at (link ∷ hops) zero h = rw (eq-eqb link link refl) (omega arith)
 occurs_at (link ∷ hops) (suc i) h = omega (arith, occurs_at hops i (le_of_suc-le-suc h))
 
-module _ (hops before loads : List ℕ) (none : (link : ℕ) → get_or before link 0 ≡ 0)
-    (counted : (link : ℕ) → get_or loads link 0 ≡ get_or before link 0 + occurs link hops) where
+module _ (hops before loads : List ℕ) (none : AllZero before) (counted : Counted hops before loads) where
   load : (link : ℕ) → get_or loads link 0 ≡ occurs link hops
   load link = omega (arith, none link, counted link)
 

@@ -61,6 +61,14 @@ FoundAmong path firsts nexts steps words r =
 
 -- ---- room for more
 
+-- every number of the list is 0
+abbrev pub AllZero : List ℕ → Type 0
+AllZero ns = (link : ℕ) → get_or ns link 0 ≡ 0
+
+-- each link's number has grown by how often it stands among the links
+abbrev pub Counted : (links before after : List ℕ) → Type 0
+Counted links before after = (link : ℕ) → get_or after link 0 ≡ get_or before link 0 + occurs link links
+
 -- the sum of a list
 abbrev pub total : List ℕ → ℕ
 total ns = sum_of (λ n. n) ns

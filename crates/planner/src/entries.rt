@@ -7,18 +7,19 @@ ghost use Rattle.rules.specs.Travel.{one_step};
 ghost use Rattle.rules.specs.Claims.{place};
 ghost use Rattle.marks.specs.Marks.{numbers_most};
 ghost use Rattle.planner.specs.PacketsInLists.{path_claims};
-ghost use Rattle.planner.specs.Entries.{widest, steps_on, Below, Parts, OnLinks, Searchable, MarksAdded, FoundAmong, total, Rooms, Enterable};
+ghost use Rattle.planner.specs.Entries.{widest, steps_on, Below, Parts, OnLinks, Searchable, MarksAdded, FoundAmong, AllZero, Counted, total, Rooms, Enterable};
 ghost use Rattle.planner.specs.Again.{FirstAgain, InOrder};
 ghost use Rattle.planner.specs.Cuts.{Cuttable};
 ghost use Rattle.planner.specs.EntriesAdded.{claim_steps, EntriesAdded};
 
-use crate::repeats::first_again;
+use crate::repeats::{cut_at_repeats, first_beyond};
 use job::{Hop, Job, Step};
 
 // Adds to each link's load how often it stands among the hops.
+// `Below` is a clause and no struct's fact: each function ties its hops to another number, here to the length of the loads, which are lent.
 fn count(hops: &[u16], loads: &mut [u16])
     requires { Below hops.now (length loads.old) × (total loads.old + length hops.now ≤ widest) }
-    ensures by_index { (link : ℕ) → get_or loads.new link 0 ≡ get_or loads.old link 0 + occurs link hops.now }
+    ensures by_index { Counted hops.now loads.old loads.new }
     ensures sum { total loads.new ≡ total loads.old + length hops.now }
 {
     for &link in hops {
@@ -30,15 +31,14 @@ fn count(hops: &[u16], loads: &mut [u16])
 // the loads, and firsts is 0 throughout; nobody has entered a room yet. The answer is how many links have one: none
 // from there on has a load.
 fn open(places: usize, firsts: &mut [u16], nexts: &mut [u16]) -> usize
-    requires { (total nexts.old ≡ places) × (places ≤ widest) × (length firsts.old ≡ length nexts.old)
-        × ((link : ℕ) → get_or firsts.old link 0 ≡ 0) }
+    requires { (total nexts.old ≡ places) × (places ≤ widest) × (length firsts.old ≡ length nexts.old) × AllZero firsts.old }
     ensures rooms { Rooms (λ link. get_or nexts.old link 0) firsts.new places }
     ensures empty { (link : ℕ) → get_or nexts.new link 0 ≡ get_or firsts.new link 0 }
     ensures links { (result ≤ length nexts.old) × ((link : ℕ) → result ≤ link → get_or nexts.old link 0 ≡ 0) }
 {
     let mut link = 0;
     let mut place: u16 = 0;
-    // no `for`: what ends it is the place, and a `for` over the links would test that beside
+    // no `for`: one over the links would test the link's number at each turn besides the place, which is the test that ends it
     while usize::from(place) < places {
         let load = nexts[link];
         firsts[link] = place;
@@ -50,6 +50,7 @@ fn open(places: usize, firsts: &mut [u16], nexts: &mut [u16]) -> usize
 }
 
 // How long after its start a packet enters the link that comes after this one.
+// 1 more for every link now. What a link costs goes in here, by the link that isn't read yet; so no loop over a path counts by `enumerate`.
 fn offset_after(offset: u16, link: u16) -> u16
     requires { offset < widest }
     ensures { result ≡ offset + one_step link }
@@ -72,7 +73,7 @@ pub(crate) struct Entries {
 impl Entries {
     // Nobody has a room yet.
     pub(crate) fn empty() -> Entries
-        ensures { ((link : ℕ) → get_or result.firsts link 0 ≡ 0) × ((link : ℕ) → get_or result.nexts link 0 ≡ 0) }
+        ensures { AllZero result.firsts × AllZero result.nexts }
     {
         Entries {
             firsts: [0; Job::LINKS],
@@ -84,8 +85,7 @@ impl Entries {
     // Makes room for the entries of all hops: of each link, as often as it stands among them. At the call both lists are 0 throughout;
     // nobody has entered a room yet. The answer is how many links have one: every hop is on one of them.
     pub(crate) fn make_room(&mut self, hops: &[u16]) -> usize
-        requires { Below hops.now links_most × (length hops.now ≤ widest)
-            × ((link : ℕ) → get_or self.old.firsts link 0 ≡ 0) × ((link : ℕ) → get_or self.old.nexts link 0 ≡ 0) }
+        requires { Below hops.now links_most × (length hops.now ≤ widest) × AllZero self.old.firsts × AllZero self.old.nexts }
         ensures rooms { Rooms (λ link. occurs link hops.now) self.new.firsts (length hops.now) }
         ensures empty { (link : ℕ) → get_or self.new.nexts link 0 ≡ get_or self.new.firsts link 0 }
         ensures links { OnLinks result hops.now }
@@ -130,7 +130,7 @@ impl Entries {
     // Enters the links of a path, the first of them in the step of the start.
     pub(crate) fn enter(&mut self, path: &[u16], start: u16)
         requires { Enterable path.now start self.old.nexts (length self.old.steps) }
-        ensures by_index { (link : ℕ) → get_or self.new.nexts link 0 ≡ get_or self.old.nexts link 0 + occurs link path.now }
+        ensures by_index { Counted path.now self.old.nexts self.new.nexts }
         ensures entries { EntriesAdded path.now (claim_steps (place start (path_claims path.now))) self.old.nexts self.old.steps
             self.new.nexts self.new.steps }
         ensures rooms { self.new.firsts ≡ self.old.firsts }
@@ -156,13 +156,11 @@ impl Entries {
         requires { Below hops.now links × Cuttable links self.old.firsts self.old.nexts self.old.steps words.old }
         ensures { (all : List ℕ) → InOrder hops.now all self.old.firsts self.old.nexts self.old.steps → FirstAgain hops.now all result }
     {
-        first_again(
-            links,
-            hops,
-            &mut self.firsts,
-            &mut self.nexts,
-            &self.steps,
-            words,
-        )
+        let shorter = cut_at_repeats(links, &self.firsts, &mut self.nexts, &self.steps, words);
+        if shorter {
+            first_beyond(hops, &mut self.firsts, &self.nexts)
+        } else {
+            None
+        }
     }
 }

@@ -30,13 +30,11 @@ const WORDS: usize = Job::HOPS / 64 + 1;
 pub fn enters(path: &[u16], start: u16, link: u16, step: Step) -> bool
     ensures { result ≡ takes (place start (path_claims path.now)) link step.0 }
 {
-    let begun = u32::from(start);
-    if step.0 < begun {
+    let Some(hop) = step.0.checked_sub(u32::from(start)) else {
         return false;
-    }
-    // std has no `usize::from` for 32 bits
-    let hop = (step.0 - begun) as usize;
-    hop < path.len() && path[hop] == link
+    };
+    // `as`: std has no `usize::from` for 32 bits
+    path.get(hop as usize) == Some(&link)
 }
 
 // Starts one packet after the other, over the first places: each searches among the entries of those before it and then adds its own.
@@ -46,12 +44,13 @@ fn start_each(paths: &Paths, starts: &mut [u16], entries: &mut Entries, words: &
         × (hops_most < 64 * length words.old) }
     ensures { starts.new ≡ greedy_starts paths.now.stops.now paths.now.hops.now ++ drop (length paths.now.stops.now) starts.old }
 {
+    // by number: the path is asked for by it, and of what is written through an adapter of `iter_mut`, as `enumerate`, a proof knows nothing afterwards
     for k in 0..paths.stops.len() {
         let path = paths.path(k);
         // no start lies further than there are hops before it
         let enough = paths.begin(k) / 64 + 1;
         // `as`: a proof shows that it fits, and `try_from` would make a case of what cannot be
-        let start = entries.search(path, &mut words[0..enough]) as u16;
+        let start = entries.search(path, &mut words[..enough]) as u16;
         starts[k] = start;
         entries.enter(path, start);
     }

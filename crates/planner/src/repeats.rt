@@ -1,17 +1,16 @@
 // Entries that repeat one before them: each link's steps are compared with the one before and, unless each is later, marked one by one, and
 // the marks wiped; where a step was marked already, the hops are walked, in list order.
-ghost use Rattle.std.specs.Prelude.{◌≡◌, false, ◌↔◌, IsTrue, List, ℕ, ◌-◌, ◌≤◌, length, take, drop};
+ghost use Rattle.std.specs.Prelude.{◌≡◌, false, ◌↔◌, IsTrue, ◌-◌, ◌≤◌, length, take, drop};
 ghost use Rattle.std.specs.Option.{unwrap_or};
 ghost use Rattle.std.specs.List.Sorted.{IsStrictlyIncreasing};
 ghost use Rattle.marks.specs.Marks.{unmarked};
-ghost use Rattle.planner.specs.Entries.{Below};
-ghost use Rattle.planner.specs.Again.{FirstAgain, InOrder};
 ghost use Rattle.planner.specs.Cuts.{FirstRepeat, MarksWithin, Markable, Cuttable, Cut, SameParts, Walkable, FirstBeyond};
 
 use marks::Word;
 
 // Marks the steps up to the first that is marked already, since it stands among those before it; its place, if there is one. A word stays
 // in hand for as long as the steps fall in it, so that no look at it waits for a store.
+// `Markable` is a clause and no struct's fact: it ties the steps, which are read, to the words, which are lent for writing.
 fn mark_to_repeat(steps: &[u16], words: &mut [u64]) -> Option<usize>
     requires { Markable steps.now words.old }
     ensures first_repeat { FirstRepeat steps.now result }
@@ -75,7 +74,8 @@ fn cut(from: u16, to: u16, steps: &[u16], words: &mut [u64]) -> Option<usize>
 }
 
 // Cuts each link's part at its first entry that repeats one before it. Where it answers no, every part is as it was.
-fn cut_at_repeats(
+// `Cuttable` is a clause and no struct's fact: it ties the entries to the words, which are lent beside them.
+pub(crate) fn cut_at_repeats(
     links: usize,
     firsts: &[u16],
     nexts: &mut [u16],
@@ -86,7 +86,9 @@ fn cut_at_repeats(
     ensures cut { Cut firsts.now nexts.old steps.now nexts.new }
     ensures whole { result ≡ false → SameParts nexts.old nexts.new }
 {
+    // a flag: every link is cut, and an iterator's `any` would stop at the first that is
     let mut shorter = false;
+    // by number: of what is written through an adapter of `iter_mut`, as `zip`, a proof knows nothing afterwards
     for link in 0..links {
         if let Some(repeat) = cut(firsts[link], nexts[link], steps, words) {
             // `as`: a proof shows that it fits, and `try_from` would make a case of what cannot be
@@ -98,7 +100,7 @@ fn cut_at_repeats(
 }
 
 // The first hop whose entry lies at its link's cut, if one does. Each hop before it moves its link's place on.
-fn first_beyond(hops: &[u16], firsts: &mut [u16], cuts: &[u16]) -> Option<usize>
+pub(crate) fn first_beyond(hops: &[u16], firsts: &mut [u16], cuts: &[u16]) -> Option<usize>
     requires { Walkable hops.now firsts.old cuts.now }
     ensures { FirstBeyond hops.now firsts.old cuts.now result }
 {
@@ -110,24 +112,4 @@ fn first_beyond(hops: &[u16], firsts: &mut [u16], cuts: &[u16]) -> Option<usize>
         firsts[link] += 1;
     }
     None
-}
-
-// The first hop, in list order, that enters its link in a step in which a hop before it does, if one does.
-pub(crate) fn first_again(
-    links: usize,
-    hops: &[u16],
-    firsts: &mut [u16],
-    nexts: &mut [u16],
-    steps: &[u16],
-    words: &mut [u64],
-) -> Option<usize>
-    requires { Below hops.now links × Cuttable links firsts.old nexts.old steps.now words.old }
-    ensures { (all : List ℕ) → InOrder hops.now all firsts.old nexts.old steps.now → FirstAgain hops.now all result }
-{
-    let shorter = cut_at_repeats(links, firsts, nexts, steps, words);
-    if shorter {
-        first_beyond(hops, firsts, nexts)
-    } else {
-        None
-    }
 }

@@ -7,7 +7,7 @@ ghost use Rattle.rules.specs.Check.{holder as holder_of, clash_with, clash_after
 ghost use Rattle.rules.specs.Lead.{entry_at};
 ghost use Rattle.planner.specs.Told.{entered_of, held_by, found_of, Near};
 ghost use Rattle.planner.specs.PacketsInLists.{InTime, packet_enters};
-ghost use Rattle.planner.specs.Entries.{widest, OnLinks, Enterable, EntriesBefore};
+ghost use Rattle.planner.specs.Entries.{widest, OnLinks, Counted, Enterable, EntriesBefore};
 ghost use Rattle.planner.specs.Again.{FirstAgain};
 ghost use Rattle.planner.specs.EntriesAdded.{all_steps, EntriesAdded};
 ghost use Rattle.marks.specs.Marks.{unmarked};
@@ -85,7 +85,7 @@ impl Started<'_> {
     // Enters every packet at its start, one after the other.
     fn enter_each(&self, entries: &mut Entries)
         requires { Enterable self.now.paths.hops.now start_most entries.old.nexts (length entries.old.steps) }
-        ensures by_index { (link : ℕ) → get_or entries.new.nexts link 0 ≡ get_or entries.old.nexts link 0 + occurs link self.now.paths.hops.now }
+        ensures by_index { Counted self.now.paths.hops.now entries.old.nexts entries.new.nexts }
         ensures entries { EntriesAdded self.now.paths.hops.now (all_steps (packets_in self.now))
             entries.old.nexts entries.old.steps entries.new.nexts entries.new.steps }
         ensures rooms { entries.new.firsts ≡ entries.old.firsts }

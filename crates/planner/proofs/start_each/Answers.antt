@@ -1,5 +1,5 @@
 -- Each turn starts the next packet at the first free step; past the last all greedy starts are written.
-use Rattle.std.proofs.Common.{◌≡◌, ◌+◌, ◌-◌, ◌/◌, length, take, ◌∙◌, sym, length-take, arith}
+use Rattle.std.proofs.Common.{◌≡◌, ◌+◌, ◌/◌, length, take, ◌∙◌, sym, length-take, arith}
 use Rattle.planner.specs.PacketsInLists.{begin_from}
 use Rattle.planner.proofs.Filling.{start_at, one_more, all_written}
 use Rattle.planner.proofs.Searching.{start-le_begin}
@@ -8,7 +8,7 @@ use Rattle.planner.proofs.start_each.Goals.{After-begin, After-search-start}
 use Rattle.planner.proofs.start_each.Goals as goal
 
 -- the words that are lent to packet k's search
-enough : (c : After-begin) → length (take (c.begin.result / 64 + 1 - 0) c.loop-k.words) ≡ begin_from 0 c.args.paths.now.stops.now c.loop-k.k / 64 + 1
+enough : (c : After-begin) → length (take (c.begin.result / 64 + 1) c.loop-k.words) ≡ begin_from 0 c.args.paths.now.stops.now c.loop-k.k / 64 + 1
 enough c =
     words_lent _ _ _ _ c.args.paths.now.simple (omega arith) _ _ _ c.loop-k.invariant.1 _ c.path-path.ensures _ _ c.begin.ensures
     (rw c.loop-k.auto.words c.requires.2)
@@ -20,7 +20,10 @@ found c =
     (enough (goal.at.After-search-start c).After-begin) c.search-start.ensures
 
 pub slice_bounds-search-end : goal.slice_bounds-search-end
-slice_bounds-search-end c = omega (arith, enough c, c.begin.ensures, length-take (c.begin.result / 64 + 1 - 0) c.loop-k.words)
+slice_bounds-search-end c = omega (arith, enough c, c.begin.ensures, length-take (c.begin.result / 64 + 1) c.loop-k.words)
+
+pub slice_bounds-search-end-in-loop-k : goal.slice_bounds-search-end-in-loop-k
+slice_bounds-search-end-in-loop-k c = omega (arith, enough (goal.at.slice_bounds-search-end-in-loop-k c).After-begin, c.begin.ensures)
 
 pub search-start-requires : goal.search-start-requires
 search-start-requires c =
