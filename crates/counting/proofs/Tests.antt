@@ -61,9 +61,6 @@ module _ {A : Type 0} where
       go true q e r = (x, here refl, q)
       go false q e r = let t = r e in (t.0, there t.1, t.2)
 
-  pub any_false : (f : A → Bool) (xs : List A) → ((x : A) → Memᴰ x xs → f x ≡ false) → any_of f xs ≡ false
-  any_false f xs h = false_of_not_true (any_of f xs) (λ e. let t = any_true f xs e in never_both (f t.0) t.2 (h t.0 t.1))
-
   pub any_same : (f g : A → Bool) (xs : List A) → ((x : A) → f x ≡ g x) → any_of f xs ≡ any_of g xs
   any_same f g [] h = refl
   any_same f g (x ∷ xs) h = rw (h x, any_same f g xs h)

@@ -1,13 +1,13 @@
 // Reading of text: the line cursor, the fields of a line, and the numbers that fields say. Each function answers at any place.
-ghost use Rattle.std.specs.Prelude.{◌≡◌, [], ◌∷◌, drop};
+ghost use Rattle.std.specs.Prelude.{◌≡◌, drop};
 ghost use Rattle.std.proofs.lemmas.List.Edits.{sets};
 ghost use Rattle.rules.specs.Bytes.{numbers_of, begins};
 ghost use Rattle.lines.specs.Cursor.{cursor_at, line_after, top_line};
 ghost use Rattle.lines.specs.Behind.{letter_of, ends_here, field_at, first_field, fields_behind, line_end, copied, leading};
 
-const TAB: u8 = b'\t';
+pub(crate) const TAB: u8 = b'\t';
 
-const LINE_FEED: u8 = b'\n';
+pub(crate) const LINE_FEED: u8 = b'\n';
 
 const ZERO: u8 = b'0';
 
@@ -103,6 +103,7 @@ fn number_at(text: &[u8], begin: usize) -> Result<Number, Absent>
     let mut end = text.len();
     for i in begin + 1..text.len() {
         let digit = text[i];
+        // below `0` the field may end here, and above `9` it says no number
         if digit < ZERO {
             end = i;
             break;
@@ -147,7 +148,8 @@ pub struct Copied {
 }
 
 // Copies the numbers behind a place, up to a field that says none, into a list from a place on, as far as the list goes. None where a
-// field of the line says no number.
+// field of the line says no number. `count` and `next` are counted by hand: where the numbers end only the text says, and `next` ends where
+// the list does, so there is no range to go over.
 #[tactic(auto, using(crate::proofs::CopyingNumbers::copied_here))]
 pub fn copy_behind(text: &[u8], at: usize, list: &mut [u16], from: usize) -> Option<Copied>
     ensures { (result ≡ copied (numbers_of (fields_behind text.now at)) (line_end text.now at))

@@ -5,6 +5,8 @@ ghost use Rattle.std.specs.Prelude.{[], ◌∷◌, ◌+◌, ◌^◌, ◌≤◌, 
 ghost use Rattle.rules.specs.Bytes.{tab, decimal};
 ghost use Rattle.lines.specs.Put.{Put, longest_line, line_told};
 
+use crate::reading::{LINE_FEED, TAB};
+
 // A line of so many numbers or more might end past the last place that there is.
 const NUMBERS_MOST: usize = 1 << 32;
 
@@ -20,7 +22,8 @@ fn byte(room: &mut [u8], at: usize, b: u8) -> usize
     at + 1
 }
 
-// Writes a number: the digits of its quotient by ten, then that of the remainder, by recursion as `decimal` says it.
+// Writes a number: the digits of its quotient by ten, then that of the remainder. No loop: document 01 names this form, decimal digits by
+// recursion on the quotient by ten.
 #[tactic(auto, using(crate::proofs::Putting::number_steps))]
 fn number(room: &mut [u8], at: usize, n: u32) -> usize
     requires { at + 10 < 2 ^ 64 }
@@ -42,7 +45,7 @@ fn field(room: &mut [u8], at: usize, n: u32) -> usize
     ensures put { Put room.old at (tab ∷ decimal n) room.new result }
     ensures near { result ≤ at + 11 }
 {
-    let digits = byte(room, at, b'\t');
+    let digits = byte(room, at, TAB);
     number(room, digits, n)
 }
 
@@ -52,13 +55,14 @@ pub fn line<const N: usize>(room: &mut [u8], at: u32, letter: u8, numbers: [u32;
     ensures put { Put room.old at (line_told N letter numbers.entry) room.new result }
     ensures near { result ≤ at + longest_line N }
 {
-    // std has no `usize::from` for 32 bits
+    // no call has so many; without this branch the contract would need a `requires`
     if N >= NUMBERS_MOST {
+        // `as` here and below: std has no `usize::from` for 32 bits
         return at as usize;
     }
     let mut place = byte(room, at as usize, letter);
     for n in numbers {
         place = field(room, place, n);
     }
-    byte(room, place, b'\n')
+    byte(room, place, LINE_FEED)
 }

@@ -16,6 +16,7 @@ use Rattle.rules.specs.Travel.{one_step, delay_of}
 use Rattle.rules.specs.Outcome.{Verdict, is, refused, fine, must, ◌then◌, onward}
 use Rattle.rules.specs.Counts.{end_of, routing_time, congestion, dilation}
 use Rattle.rules.specs.PlanBack.{Three, rows_verdict, starts_of, totals_verdict, followed}
+use Rattle.job.proofs.Pairs.{AtPair}
 use Rattle.plan_text.specs.PlanLines.{rows_in}
 
 -- ---- the packets' lines
@@ -24,27 +25,26 @@ use Rattle.plan_text.specs.PlanLines.{rows_in}
 pub record RowsLeft (paths : List (List ℕ)) (starts ends : List ℕ) (k : ℕ) : Type 0 where
   pub left : rows_verdict one_step 1 (rows_in starts ends) paths ≡ rows_verdict one_step (k + 1) (rows_in (drop k starts) (drop k ends)) (drop k paths)
 
-module _ {paths : List (List ℕ)} {starts ends : List ℕ} {k : ℕ} (w : RowsLeft paths starts ends k)
-    (same : length paths ≡ length starts) (ends_count : length ends ≡ length starts) where
-  module _ (h : k < length starts) where
+module _ {paths : List (List ℕ)} {starts ends : List ℕ} {k : ℕ} (w : RowsLeft paths starts ends k) (same : length paths ≡ length starts) where
+  module _ {packet start end : ℕ} (row : AtPair starts ends k (packet, (start, end))) where
     here : rows_verdict one_step 1 (rows_in starts ends) paths
         ≡ (must (leb (get_or starts k 0) start_most) 12 (k + 1)
         then must (eqb (get_or ends k 0) (end_of one_step (get_or starts k 0) (get_or paths k []))) 14 (k + 1)
         then rows_verdict one_step (k + 1 + 1) (rows_in (drop (k + 1) starts) (drop (k + 1) ends)) (drop (k + 1) paths))
     unfolding rows_verdict rows_in
     here =
-        let on : k < length paths = omega arith in
-        w.left ∙ rw (drop-cons paths k [] on, from_place starts k h, from_place ends k (omega arith), add-one (k + 1), add-one k)
+        let on : k < length paths = omega (arith, row.first) in
+        w.left ∙ rw (drop-cons paths k [] on, from_place starts k row.first, from_place ends k row.second, add-one (k + 1), add-one k)
 
-    pub row_late : start_most < get_or starts k 0 → refused 12 (k + 1) ≡ rows_verdict one_step 1 (rows_in starts ends) paths
-    row_late l = sym (here ∙ rw (lt-leb _ _ l))
+    pub row_late : start_most < start → refused 12 (packet + 1) ≡ rows_verdict one_step 1 (rows_in starts ends) paths
+    row_late l = rw row.number (sym (here ∙ rw (lt-leb _ _ (rw row.one at l))))
 
-    module _ {end : ℕ} (in_time : get_or starts k 0 ≤ start_most) (is_end : end ≡ end_of one_step (get_or starts k 0) (get_or paths k [])) where
-      pub row_off : (get_or ends k 0 ≡ end → ⊥) → refused 14 (k + 1) ≡ rows_verdict one_step 1 (rows_in starts ends) paths
-      row_off n = sym (here ∙ rw (le-leb _ _ in_time, ← is_end, ne_eqb _ _ n))
+    module _ {due : ℕ} (in_time : start ≤ start_most) (is_due : due ≡ end_of one_step (get_or starts packet 0) (get_or paths packet [])) where
+      pub row_off : (end ≡ due → ⊥) → refused 14 (packet + 1) ≡ rows_verdict one_step 1 (rows_in starts ends) paths
+      row_off n = rw row.number (sym (here ∙ rw (le-leb _ _ (rw row.one at in_time), ← (rw row.number at is_due), ne_eqb _ _ (rw row.other at n))))
 
-      pub rows_turn : get_or ends k 0 ≡ end → RowsLeft paths starts ends (k + 1)
-      rows_turn e = record { left = here ∙ rw (le-leb _ _ in_time, ← is_end, eq-eqb _ _ e) }
+      pub rows_turn : end ≡ due → RowsLeft paths starts ends (k + 1)
+      rows_turn e = record { left = here ∙ rw (le-leb _ _ (rw row.one at in_time), ← (rw row.number at is_due), eq-eqb _ _ (rw row.other at e)) }
 
   pub rows_done : length starts ≤ k → fine ≡ rows_verdict one_step 1 (rows_in starts ends) paths
   unfolding rows_verdict rows_in

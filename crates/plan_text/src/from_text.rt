@@ -12,7 +12,8 @@ use planner::from_text::read_and_plan;
 pub fn answer(text: &[u8], room: &mut [u8]) -> Result<u32, Refusal>
     ensures { WrittenAs (answered text.now (length room.old)) result room.old room.new }
 {
-    // as in checking, array by array: the check covers no function that lends all parts of one struct
+    // nothing is allocated: arrays of the greatest sizes
+    // tried as a struct of them with a method that lends each to `LentLists`: the borrow checker's part of its proof isn't made
     let mut origins = [0; Job::LINKS];
     let mut ends = [0; Job::LINKS];
     let mut sources = [0; Job::PACKETS];

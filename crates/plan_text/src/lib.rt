@@ -41,13 +41,13 @@ struct Counts {
 
 impl Plan<'_> {
     // How many hops packet k has: those from the stop before its own.
-    fn hop_count(&self, k: usize) -> Hop
+    fn hop_count(&self, k: usize) -> u16
         requires { k < length self.now.starts.now }
-        ensures { result.0 ≡ length (get_or (paths (job_in self.now.lists)) k []) }
+        ensures { result ≡ length (get_or (paths (job_in self.now.lists)) k []) }
     {
         let stops = self.lists.stops;
         let before = stops[..k].last().copied().unwrap_or(0);
-        Hop(stops[k] - before)
+        stops[k] - before
     }
 
     // The end of packet k: the step after its last hop.
@@ -55,7 +55,7 @@ impl Plan<'_> {
         requires { k < length self.now.starts.now }
         ensures { result.0 ≡ end_of one_step (get_or self.now.starts.now k 0) (get_or (paths (job_in self.now.lists)) k []) }
     {
-        Step::of(self.starts[k], self.hop_count(k))
+        Step::of(self.starts[k], Hop(self.hop_count(k)))
     }
 
     // The routing time: the greatest end.
@@ -70,7 +70,7 @@ impl Plan<'_> {
     fn dilation(&self) -> u32
         ensures { result ≡ dilation (job_in self.now.lists) }
     {
-        let longest = (0..self.starts.len()).map(|k| self.hop_count(k).0).max();
+        let longest = (0..self.starts.len()).map(|k| self.hop_count(k)).max();
         u32::from(longest.unwrap_or(0))
     }
 

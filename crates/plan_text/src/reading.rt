@@ -27,14 +27,14 @@ struct Three {
 }
 
 // What a line of three numbers says, and where the next line begins.
-#[derive(Clone, Copy)]
+#[derive(Clone, Copy, Debug, PartialEq, Eq)]
 struct ThreeLine {
     said: Three,
     next: Lines,
 }
 
 // How many S lines stand at a place, numbered from 0, and where the line behind them begins.
-#[derive(Clone, Copy)]
+#[derive(Clone, Copy, Debug, PartialEq, Eq)]
 struct Rows {
     count: usize,
     next: Lines,
@@ -77,17 +77,17 @@ fn store(list: &mut [u16], k: usize, value: u16)
 }
 
 // The S lines at a place; each start and end is stored, as far as the lists go.
-fn rows_at(plan: &[u8], place: Lines, starts: &mut [u16], ends: &mut [u16]) -> Result<Rows, Refusal>
-    ensures { (result ≡ rows_at plan.now place)
-        × (starts.new ≡ starts_stored starts.old (rows_found plan.now place))
-        × (ends.new ≡ ends_stored ends.old (rows_found plan.now place)) }
+fn rows_at(text: &[u8], place: Lines, starts: &mut [u16], ends: &mut [u16]) -> Result<Rows, Refusal>
+    ensures { (result ≡ rows_at text.now place)
+        × (starts.new ≡ starts_stored starts.old (rows_found text.now place))
+        × (ends.new ≡ ends_stored ends.old (rows_found text.now place)) }
 {
     let mut next = place;
     let mut count = 0;
     // no `for`: the cursor goes on by `moved`, a form that document 01 names
-    while begins_at(plan, next.at, b'S') {
+    while begins_at(text, next.at, b'S') {
         let bad_form = Refusal::BadForm(next.line);
-        let row = line_at(plan, next, b'S').ok_or(bad_form)?;
+        let row = line_at(text, next, b'S').ok_or(bad_form)?;
         if usize::from(row.said.first) != count {
             return Err(bad_form);
         }
@@ -100,11 +100,11 @@ fn rows_at(plan: &[u8], place: Lines, starts: &mut [u16], ends: &mut [u16]) -> R
 }
 
 // The T line at a place, and the end of the plan behind it.
-fn totals_at(plan: &[u8], place: Lines) -> Result<Three, Refusal>
-    ensures { result ≡ totals_at plan.now place }
+fn totals_at(text: &[u8], place: Lines) -> Result<Three, Refusal>
+    ensures { result ≡ totals_at text.now place }
 {
-    let ThreeLine { said, next } = line_at(plan, place, b'T').ok_or(Refusal::BadForm(place.line))?;
-    if next.at < plan.len() {
+    let ThreeLine { said, next } = line_at(text, place, b'T').ok_or(Refusal::BadForm(place.line))?;
+    if next.at < text.len() {
         return Err(Refusal::BadForm(next.line));
     }
     Ok(said)
@@ -121,7 +121,7 @@ pub struct PlanReader<'a> {
 impl<'a> PlanReader<'a> {
     // At the first line.
     fn top(bytes: &'a [u8]) -> PlanReader<'a>
-        ensures { (result.bytes ≡ bytes.entry) × (result.place ≡ top_line) }
+        ensures { result ≡ record { bytes = bytes.entry; place = top_line } }
     {
         PlanReader {
             bytes,
@@ -131,7 +131,7 @@ impl<'a> PlanReader<'a> {
 
     // At another place of the same bytes.
     fn moved(self, place: Lines) -> PlanReader<'a>
-        ensures { (result.bytes ≡ self.entry.bytes) × (result.place ≡ place) }
+        ensures { result ≡ record { bytes = self.entry.bytes; place = place } }
     {
         PlanReader { place, ..self }
     }
@@ -158,14 +158,13 @@ fn rows_verdict(plan: &Plan, ends: &[u16]) -> Result<(), Refusal>
     requires { length ends.now ≡ length plan.now.starts.now }
     ensures { verdict_of result ≡ rows_verdict one_step 1 (rows_in plan.now.starts.now ends.now) (paths (job_in plan.now.lists)) }
 {
-    for (k, &start) in plan.starts.iter().enumerate() {
-        // `as`: a proof shows that it fits, and `try_from` would make a case of what cannot be
+    for (k, (&start, &end)) in plan.starts.iter().zip(ends).enumerate() {
+        // `as` here and below: a proof shows that it fits, and `try_from` would make a case of what cannot be
         let line = k as u32 + 1;
         if start > Job::START {
             return Err(Refusal::LateStart(line));
         }
-        // by index, since the end of packet k is asked for too: a `zip` would bring the other number alone
-        if u32::from(ends[k]) != plan.end(k).0 {
+        if u32::from(end) != plan.end(k).0 {
             return Err(Refusal::NotFollowing(line));
         }
     }
@@ -204,6 +203,7 @@ fn find_starts(lists: &JobLists, text: &[u8]) -> Result<[u16; Job::PACKETS], Ref
     requires { (tables (job_in lists.now) ≡ fine) × (length text.now ≤ text_most) }
     ensures { outcome_of (λ starts. take (length lists.now.sources.now) starts) result ≡ lines_say (job_in lists.now) text.now }
 {
+    // nothing is allocated: arrays of the greatest sizes
     let mut starts = [0; Job::PACKETS];
     let mut ends = [0; Job::PACKETS];
     let reader = PlanReader::top(text);
@@ -221,14 +221,14 @@ fn find_starts(lists: &JobLists, text: &[u8]) -> Result<[u16; Job::PACKETS], Ref
 }
 
 // The starts of a plan's text, for a job as lists: found first in a list of their own, and copied once nothing is refused.
-pub fn read(lists: &JobLists, plan: &[u8], starts: &mut [u16]) -> Result<(), Refusal>
-    ensures { ReadBackAs (plan_read_in (job_in lists.now) plan.now (length starts.old)) result starts.old starts.new }
+pub fn read(lists: &JobLists, text: &[u8], starts: &mut [u16]) -> Result<(), Refusal>
+    ensures { ReadBackAs (plan_read_in (job_in lists.now) text.now (length starts.old)) result starts.old starts.new }
 {
     lists.tables()?;
-    if plan.len() > Job::TEXT {
+    if text.len() > Job::TEXT {
         return Err(Refusal::TextTooLong);
     }
-    let found = find_starts(lists, plan)?;
+    let found = find_starts(lists, text)?;
     let packets = lists.sources.len();
     if packets > starts.len() {
         return Err(Refusal::ShortRoom);

@@ -7,18 +7,18 @@ use Rattle.plan_text.proofs.reading.find_starts.Goals as goal
 pub returns-in_err-rows : goal.returns-in_err-rows
 returns-in_err-rows c =
     let e : c.from_residual.result ≡ Err c.in_err-rows.field-0.0 = search rules in
-    rw e (rows_bad _ _ c.requires.1 (rw (c.top-reader.ensures.0, c.top-reader.ensures.1) at c.in_err-rows.ensures.0))
+    rw e (rows_bad _ _ c.requires.1 (rw c.top-reader.ensures at c.in_err-rows.ensures.0))
 
 pub returns-then-rows-lists : goal.returns-then-rows-lists
 returns-then-rows-lists c =
-    count_off _ _ c.requires.1 (rw (c.top-reader.ensures.0, c.top-reader.ensures.1) at c.in_ok-rows.ensures.0) c.if-rows-lists.true
+    count_off _ _ c.requires.1 (rw c.top-reader.ensures at c.in_ok-rows.ensures.0) c.if-rows-lists.true
 
 pub returns-in_err-said : goal.returns-in_err-said
 returns-in_err-said c =
     let e : c.from_residual-in_err-said.result ≡ Err c.in_err-said.field-0.0 = search rules in
     rw e
-    (totals_bad _ _ c.requires.1 (rw (c.top-reader.ensures.0, c.top-reader.ensures.1) at c.in_ok-rows.ensures.0) c.if-rows-lists.false
-    (rw (c.moved.ensures.0, c.moved.ensures.1, c.top-reader.ensures.0) at c.in_err-said.ensures))
+    (totals_bad _ _ c.requires.1 (rw c.top-reader.ensures at c.in_ok-rows.ensures.0) c.if-rows-lists.false
+    (rw (c.moved.ensures, c.top-reader.ensures) at c.in_err-said.ensures))
 
 pub slice_bounds-starts-end : goal.slice_bounds-starts-end
 slice_bounds-starts-end c = starts_fit _ c.requires.0 c.if-rows-lists.false c.top-reader.result.bytes.now c.top-reader.result.place c.in_ok-rows.ensures.1
@@ -43,13 +43,13 @@ slice_bounds-followed-end c = sym (length-take-le _ _ (ends_fit _ c.requires.0 c
 pub returns-in_err-followed : goal.returns-in_err-followed
 returns-in_err-followed c =
     let e : c.from_residual-in_err-followed.result ≡ Err c.in_err-followed.field-0.0 = search rules in
-    let rows = rw (c.top-reader.ensures.0, c.top-reader.ensures.1) at c.in_ok-rows.ensures in
+    let rows = rw c.top-reader.ensures at c.in_ok-rows.ensures in
     rw e
-    (off _ _ c.requires.1 rows.0 c.if-rows-lists.false (rw (c.moved.ensures.0, c.moved.ensures.1, c.top-reader.ensures.0) at c.in_ok-said.ensures)
+    (off _ _ c.requires.1 rows.0 c.if-rows-lists.false (rw (c.moved.ensures, c.top-reader.ensures) at c.in_ok-said.ensures)
     (packets_fit _ c.requires.0 c.if-rows-lists.false) _ _ rows.1 rows.2 c.in_err-followed.ensures)
 
 pub returns : goal.returns
 returns c =
-    let rows = rw (c.top-reader.ensures.0, c.top-reader.ensures.1) at c.in_ok-rows.ensures in
-    found _ _ c.requires.1 rows.0 c.if-rows-lists.false (rw (c.moved.ensures.0, c.moved.ensures.1, c.top-reader.ensures.0) at c.in_ok-said.ensures)
+    let rows = rw c.top-reader.ensures at c.in_ok-rows.ensures in
+    found _ _ c.requires.1 rows.0 c.if-rows-lists.false (rw (c.moved.ensures, c.top-reader.ensures) at c.in_ok-said.ensures)
     (packets_fit _ c.requires.0 c.if-rows-lists.false) _ _ rows.1 rows.2 c.in_ok-followed.ensures

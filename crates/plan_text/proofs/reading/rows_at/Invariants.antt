@@ -4,7 +4,7 @@ use Rattle.plan_text.proofs.RowsLeft.{Left}
 use Rattle.plan_text.proofs.reading.rows_at.Given as goal
 
 abbrev pub invariant-loop-bad_form : goal.invariant-loop-bad_form
-invariant-loop-bad_form l = Left l.plan l.fn.starts l.fn.ends l.fn.place l.starts l.ends l.next l.count
+invariant-loop-bad_form l = Left l.text l.fn.starts l.fn.ends l.fn.place l.starts l.ends l.next l.count
 
 abbrev pub decreases-loop-bad_form : goal.decreases-loop-bad_form
-decreases-loop-bad_form l = length l.plan - l.next.at
+decreases-loop-bad_form l = length l.text - l.next.at

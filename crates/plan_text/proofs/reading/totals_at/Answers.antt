@@ -9,8 +9,8 @@ returns-in_err-said c =
     let (none, why) = err_none _ _ c.in_err-said.ensures.value in
     rw (e, why) (totals_none _ _ (sym c.line_at.ensures ∙ none))
 
-pub returns-then-next-plan : goal.returns-then-next-plan
-returns-then-next-plan c = totals_more _ _ (sym c.line_at.ensures ∙ ok_some _ _ c.in_ok-said.ensures.value) c.if-next-plan.true
+pub returns-then-next-text : goal.returns-then-next-text
+returns-then-next-text c = totals_more _ _ (sym c.line_at.ensures ∙ ok_some _ _ c.in_ok-said.ensures.value) c.if-next-text.true
 
 pub returns : goal.returns
-returns c = totals_end _ _ (sym c.line_at.ensures ∙ ok_some _ _ c.in_ok-said.ensures.value) c.if-next-plan.false
+returns c = totals_end _ _ (sym c.line_at.ensures ∙ ok_some _ _ c.in_ok-said.ensures.value) c.if-next-text.false
