@@ -17,7 +17,8 @@ use std::{io, str};
 // The longest name that a file may be opened by: the system takes 4,096 bytes, and wants a zero behind it.
 const NAME: usize = 4095;
 
-// Writes how the program is to be called, and in which of the files' names the call is wrong. In parts, and not by `write!`: a name is bytes, not text.
+// Writes how the program is to be called, and in which of the files' names the call is wrong. In parts, and not by `write!`: a name is bytes,
+// not text.
 fn tell_usage<W: Write>(out: &mut W, what: &[u8], name: &[u8]) -> io::Result<()>
     ensures { OnOk result (Appends (W.contents out.old) (W.contents out.new) (codes "check: " ++ what.now ++ name.now ++ codes " (check JOB PLAN)\n")) }
 {

@@ -74,6 +74,7 @@ pub fn print(job: &[u8], plan: &[u8], room: &mut [u8; ROOM]) -> usize
     match check(job, plan) {
         Ok(None) => tell_clear(room),
         Ok(Some(clash)) => {
+            // as in zhevgulor's `shown`: one function for both would be public, and its contract as long as this
             let numbers = [
                 u32::from(clash.later),
                 u32::from(clash.earlier),

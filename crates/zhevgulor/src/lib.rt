@@ -150,6 +150,7 @@ fn shown(found: Option<Clash>, numbers: &mut [u32]) -> Result<u32, Refusal>
     if numbers.len() < 4 {
         return Err(Refusal::ShortRoom);
     }
+    // as in checking's `print`: one function for both would be public, and its contract as long as this
     numbers[..4].copy_from_slice(&[
         u32::from(clash.later),
         u32::from(clash.earlier),
