@@ -2,7 +2,7 @@
 use mathlib.Core.Path.{◌≡◌, refl, sym, ◌∙◌}
 use mathlib.Core.Bool.{true}
 use mathlib.Core.List.{List, [], ◌∷◌}
-use Prim.Native.Nat.{ℕ, ◌-◌, ◌≤◌}
+use Prim.Native.Nat.{ℕ, ◌≤◌}
 use native.Mathlib.Nat.{zero-add}
 use native.Mathlib.Omega.{arith}
 use lib.Dec.{leb}
@@ -27,11 +27,10 @@ pub printed_fits : {text lent after : List ℕ} {count : ℕ} → PrintedAs text
 unfolding lent_after
 printed_fits {text} {lent} p = rw p.room (omega (arith, p.bytes, length-append text (drop (length text) lent)))
 
--- what is printed is what stands in `&room[0..count]`
-pub printed_first : (text lent after : List ℕ) (count : ℕ) → PrintedAs text count lent after → take (count - 0) after ≡ text
+-- what is printed is what stands in `&room[..count]`
+pub printed_first : (text lent after : List ℕ) (count : ℕ) → PrintedAs text count lent after → take count after ≡ text
 unfolding lent_after
-printed_first text lent after count p =
-    let all : count - 0 ≡ length text = omega (arith, p.bytes) in rw (all, p.room) (take-append_seam text (drop (length text) lent))
+printed_first text lent after count p = rw (p.bytes, p.room) (take-append_seam text (drop (length text) lent))
 
 -- a text that is written from the first place on, in a room that it fits
 pub put_printed : {text lent after : List ℕ} {next : ℕ} → Put lent 0 text after next → length text ≤ length lent → PrintedAs text next lent after

@@ -17,7 +17,8 @@ use std::{io, str};
 // The longest name that a file may be opened by: the system takes 4,096 bytes, and wants a zero behind it.
 const NAME: usize = 4095;
 
-// Writes how the program is to be called, and in which of the files' names the call is wrong.
+// Writes how the program is to be called, and in which of the files' names the call is wrong. In parts, and not by `write!`: a name is bytes,
+// not text.
 fn tell_usage<W: Write>(out: &mut W, what: &[u8], name: &[u8]) -> io::Result<()>
     ensures { OnOk result (Appends (W.contents out.old) (W.contents out.new) (codes "check: " ++ what.now ++ name.now ++ codes " (check JOB PLAN)\n")) }
 {
@@ -46,7 +47,7 @@ fn two_are_named(rt: &HostRuntime, errors: &mut impl Write) -> bool {
     if is_given(rt, 3) {
         let mut name = [0; NAME];
         let length = rt.arg(3, &mut name).unwrap_or(0);
-        let _ = tell_usage(errors, b"a third file is named: ", &name[0..length]);
+        let _ = tell_usage(errors, b"a third file is named: ", &name[..length]);
         return false;
     }
     true
@@ -82,12 +83,17 @@ fn read_named(
     let mut name = [0; NAME];
     let wrong = match rt.arg(i, &mut name) {
         Ok(0) => "an empty name is given for ",
+        // `TooLong`, and not `NotPresent`: `two_are_named` found the argument there
         Err(_) => "a name of more than 4,095 bytes is given for ",
         Ok(length) => {
-            let name = &name[0..length];
-            return read_file(rt, name, text)
-                .map_err(|error| tell_failure(errors, name, error))
-                .ok();
+            let name = &name[..length];
+            match read_file(rt, name, text) {
+                Ok(bytes) => return Some(bytes),
+                Err(error) => {
+                    let _ = tell_failure(errors, name, error);
+                    return None;
+                }
+            }
         }
     };
     let _ = tell_usage(errors, wrong.as_bytes(), what);
@@ -100,7 +106,7 @@ pub fn print<W: Write>(job: &[u8], plan: &[u8], out: &mut W) -> io::Result<()>
 {
     let mut room = [0; ROOM];
     let count = checking::print(job, plan, &mut room);
-    out.write_all(&room[0..count])
+    out.write_all(&room[..count])
 }
 
 // One byte more than a text may have is read of each file, so that a longer text is seen to be too long, however much of it there is. Both are
@@ -118,7 +124,7 @@ fn main(rt: HostRuntime) {
     let Some(plan_bytes) = read_named(&rt, &mut errors, 2, b"PLAN", &mut plan) else {
         return;
     };
-    let written = print(&job[0..job_bytes], &plan[0..plan_bytes], &mut rt.stdout());
+    let written = print(&job[..job_bytes], &plan[..plan_bytes], &mut rt.stdout());
     if let Err(error) = written {
         let _ = tell_failure(&mut errors, b"standard output", error);
     }

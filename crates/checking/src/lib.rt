@@ -36,7 +36,7 @@ fn checked_plan(lists: &JobLists, plan: &[u8], starts: &mut [u16]) -> Result<Opt
 pub fn check(job: &[u8], plan: &[u8]) -> Result<Option<Clash>, Refused>
     ensures { texts_of result ≡ checked_texts job.now plan.now }
 {
-    // as in plan_text, array by array: the check covers no function that lends all parts of one struct
+    // array by array, as in plan_text: tried as a struct with a method that lends each to LentLists, and the borrow checker's part isn't proved
     let mut origins = [0; Job::LINKS];
     let mut ends = [0; Job::LINKS];
     let mut sources = [0; Job::PACKETS];
@@ -58,7 +58,7 @@ pub fn check(job: &[u8], plan: &[u8]) -> Result<Option<Clash>, Refused>
 pub const ROOM: usize = 46;
 
 // Writes the word `clear`.
-fn clear(room: &mut [u8]) -> usize
+fn tell_clear(room: &mut [u8]) -> usize
     requires { length clear_text ≤ length room.old }
     ensures { PrintedAs clear_text result room.old room.new }
 {
@@ -72,8 +72,9 @@ pub fn print(job: &[u8], plan: &[u8], room: &mut [u8; ROOM]) -> usize
     ensures near { result ≤ length room.new }
 {
     match check(job, plan) {
-        Ok(None) => clear(room),
+        Ok(None) => tell_clear(room),
         Ok(Some(clash)) => {
+            // as in zhevgulor's `shown`: one function for both would be public, and its contract as long as this
             let numbers = [
                 u32::from(clash.later),
                 u32::from(clash.earlier),

@@ -8,7 +8,7 @@ ghost use Rattle.input.specs.Told.{bytes_read};
 use std::io::{Cursor, Read, Write};
 use std::{io, str};
 
-// A read that failed, and how many bytes were read before it.
+// A read that failed, and how many bytes were read before it. `Drop` alone is derived: an `io::Error` can't be copied or compared.
 #[derive(Drop)]
 pub struct Unread {
     pub bytes: usize,
@@ -48,7 +48,7 @@ pub fn read_all<R: Read>(reader: &mut R, text: &mut [u8]) -> Result<usize, Unrea
 const WORDS: usize = 256;
 
 // Writes a line that tells what failed: what it is, as the caller names it, a colon, and the system's words for the error. The error's number,
-// which std puts behind them, is left out.
+// which std puts behind them, is left out. In parts, and not by `write!`: a name is bytes, not text.
 pub fn tell_failure<W: Write>(out: &mut W, what: &[u8], error: io::Error) -> io::Result<()>
     ensures { OnOk result ((words : List ℕ)
         × Appends (W.contents out.old) (W.contents out.new) (what.now ++ codes ": " ++ words ++ codes "\n")) }

@@ -19,7 +19,7 @@ fn show_verdict(rt: &impl Print, name: &str, verdict: Result<(), Refusal>, sum: 
     }
 }
 
-// A clash is shown by its later and earlier packet.
+// A clash is shown by 100, where a refusal's number would stand, and by its later and earlier packet.
 fn show_checked(rt: &impl Print, name: &str, checked: Result<Option<Clash>, Refusal>) {
     match checked {
         Ok(None) => show(rt, name, 0, 0, 0),
@@ -34,7 +34,7 @@ fn show_checked(rt: &impl Print, name: &str, checked: Result<Option<Clash>, Refu
     }
 }
 
-// The starts added up.
+// The starts added up; no `sum`: its bound would have to be a `requires`.
 fn total(starts: &[u16]) -> u64 {
     starts
         .iter()

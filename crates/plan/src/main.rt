@@ -12,7 +12,7 @@ use job::Job;
 use std::io;
 use std::io::{Read, Write};
 
-// What the system failed at.
+// What the system failed at. `Drop` alone is derived: an `io::Error` can't be copied or compared.
 #[derive(Drop)]
 pub enum Failure {
     Reading(io::Error),
@@ -39,8 +39,8 @@ pub fn print<R: Read, W: Write>(job: &mut R, out: &mut W) -> Result<(), Failure>
     let mut text = [0; Job::TEXT + 1];
     let bytes = read_all(job, &mut text)?;
     let mut room = [0; ROOM];
-    let count = answer::print(&text[0..bytes], &mut room);
-    out.write_all(&room[0..count]).map_err(Failure::Writing)
+    let count = answer::print(&text[..bytes], &mut room);
+    out.write_all(&room[..count]).map_err(Failure::Writing)
 }
 
 fn main(rt: HostRuntime) {

@@ -150,6 +150,7 @@ fn shown(found: Option<Clash>, numbers: &mut [u32]) -> Result<u32, Refusal>
     if numbers.len() < 4 {
         return Err(Refusal::ShortRoom);
     }
+    // as in checking's `print`: one function for both would be public, and its contract as long as this
     numbers[..4].copy_from_slice(&[
         u32::from(clash.later),
         u32::from(clash.earlier),
@@ -207,6 +208,7 @@ pub fn zhevgulor_lead(
             place: 0,
             lead,
         },
+        // `why` here, and `reason` in `counts_of`: must-fail finds the mistakes of each by its text
         Err(why) => LeadAnswer {
             refusal: why.number(),
             place: why.place(),
@@ -289,6 +291,7 @@ fn starts_said(lists: &JobLists, plan: &[u8], starts: &mut [u16]) -> Result<u32,
     ensures { WrittenAs (plan_read_in (job_in lists.now) plan.now (length starts.old)) result starts.old starts.new }
 {
     plan_text::reading::read(lists, plan, starts)?;
+    // named, and not as in `planned`: must-fail finds the mistakes of each by its text
     let packets = lists.sources.len();
     Ok(packets as u32)
 }

@@ -1,15 +1,14 @@
 // The archive for C programs: the functions that include/zhevgulor.h declares, each with the contract of the one that it calls.
+// They stand twice: a crate is a library or a static library, and this one exports zhevgulor's for C. Lists come one by one for the C interface.
 #![tactic(auto)]
 
 ghost use Rattle.std.specs.Prelude.{◌≡◌, length};
 ghost use Rattle.rules.specs.Outcome.{is, onward};
 ghost use Rattle.rules.specs.Tables.{tables as tables_verdict};
-ghost use Rattle.rules.specs.Answers.{planned, led, in_room, written};
+ghost use Rattle.rules.specs.Answers.{planned, led, written};
 ghost use Rattle.job.specs.Lists.{job_of};
-ghost use Rattle.job.specs.Told.{refusal_of};
-ghost use Rattle.job_text.specs.Told.{lists, reading_of};
-ghost use Rattle.plan_text.specs.Told.{written_of};
-ghost use Rattle.zhevgulor.specs.Told.{answer_for, lead_for, read_for, about_text, LentAs, ReadFor};
+ghost use Rattle.job_text.specs.Told.{lists};
+ghost use Rattle.zhevgulor.specs.Told.{answer_for, lead_for, LentAs, ReadFor};
 ghost use Rattle.zhevgulor.specs.Promise.{PlanPromise, CheckPromise};
 ghost use Rattle.zhevgulor.specs.PlanBackPromise.{ReadPlanPromise, CheckTextsPromise};
 

@@ -5,7 +5,7 @@ use Rattle.checking.proofs.Printing.{prints}
 use Rattle.checking.proofs.print.Goals as goal
 
 pub returns-in-Ok-None-clause-printed_as : goal.returns-in-Ok-None-clause-printed_as
-returns-in-Ok-None-clause-printed_as c = prints _ _ (rw c.in-Ok-None.field-0-is at c.in-Ok-None.ensures) c.clear.ensures
+returns-in-Ok-None-clause-printed_as c = prints _ _ (rw c.in-Ok-None.field-0-is at c.in-Ok-None.ensures) c.tell_clear.ensures
 
 pub returns-in-Ok-Some-clause-printed_as : goal.returns-in-Ok-Some-clause-printed_as
 returns-in-Ok-Some-clause-printed_as c =

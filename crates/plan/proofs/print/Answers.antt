@@ -1,5 +1,5 @@
 -- All that the reader has is what was read, up to a byte more than a text may have, and what is printed for it stands first in the room.
-use Rattle.std.proofs.Common.{rules, arith, refl, sym, ap, ◌∙◌, subst, ◌≡◌, ℕ, ◌+◌, ◌-◌, ◌<◌, ◌≤◌, List, [], ◌++◌, length, take, Option, None, Some, IfSome, Result, Ok, Err, OnOk}
+use Rattle.std.proofs.Common.{rules, arith, refl, sym, ap, ◌∙◌, subst, ◌≡◌, ℕ, ◌+◌, ◌<◌, ◌≤◌, List, [], ◌++◌, length, take, Option, None, Some, IfSome, Result, Ok, Err, OnOk}
 use Rattle.std.proofs.Common.{inl, inr, take_all, length-take-le, append-nil}
 use Rattle.std.proofs.Math.Seq.{take-append_seam, take-length}
 use Rattle.std.proofs.lemmas.Bool.{cases_lt}
@@ -35,15 +35,14 @@ as_of_all bytes = elim (cases_lt text_most (length bytes)) [
 ]
 
 handed_on : (a b old new : Option (List ℕ)) (text lent room : List ℕ) (n count : ℕ) → length text ≡ text_most + 1 → n ≤ length text
-    → Consumes a b (take n text) → (n < length text → IsAtEnd b) → PrintedAs (plans (take (n - 0) text)) count lent room
-    → Appends old new (take (count - 0) room) → IfSome a (λ xs. Appends old new (plans xs))
+    → Consumes a b (take n text) → (n < length text → IsAtEnd b) → PrintedAs (plans (take n text)) count lent room
+    → Appends old new (take count room) → IfSome a (λ xs. Appends old new (plans xs))
 handed_on None b old new text lent room n count long fits read end printed written = tt
 handed_on (Some xs) None old new text lent room n count long fits read end printed written = absurd read
 handed_on (Some xs) (Some ys) old new text lent room n count long fits read end printed written =
     let same = all_read xs ys text n fits read end in
     let first = printed_first _ lent room count printed in
-    let all : n - 0 ≡ n = omega arith in
-    subst (Appends old new) (first ∙ ap plans (ap (λ m. take m text) all ∙ sym same ∙ ap (λ m. take m xs) long) ∙ as_of_all xs) written
+    subst (Appends old new) (first ∙ ap plans (sym same ∙ ap (λ m. take m xs) long) ∙ as_of_all xs) written
 
 -- another error in place of the one that there is says no more of what is written
 on_other_error : {T E F P Q : Type 0} (r : Result T E) (s : Result T F) → is_ok s ≡ is_ok r → (P → Q) → OnOk r P → OnOk s Q

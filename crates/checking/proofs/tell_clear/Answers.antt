@@ -1,7 +1,7 @@
 -- Six bytes, in a room that has them.
 use Rattle.std.proofs.Common.{refl}
 use Rattle.rules.specs.Answers.{lent_after}
-use Rattle.checking.proofs.clear.Goals as goal
+use Rattle.checking.proofs.tell_clear.Goals as goal
 
 pub returns : goal.returns
 unfolding lent_after
