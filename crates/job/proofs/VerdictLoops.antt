@@ -100,10 +100,10 @@ unfolding stops_agree
 rising last [] hops h = refl
 rising last (stop ∷ stops) hops h = rw (le-leb last stop (h 0 (omega arith))) (rising stop stops hops (λ k l. h (suc k) (omega arith)))
 
-pub stops_rise : (stops : List ℕ) (hops : ℕ) → ((k : ℕ) → k + 1 < length stops → get_or stops k 0 ≤ get_or stops (k + 1) 0) → stops_agree 0 stops hops ≡ eqb (get_or stops (length stops - 1) 0) hops
+pub rising_agree : (stops : List ℕ) (hops : ℕ) → ((k : ℕ) → k + 1 < length stops → get_or stops k 0 ≤ get_or stops (k + 1) 0) → stops_agree 0 stops hops ≡ eqb (get_or stops (length stops - 1) 0) hops
 unfolding stops_agree
-stops_rise [] hops h = refl
-stops_rise (stop ∷ stops) hops h =
+rising_agree [] hops h = refl
+rising_agree (stop ∷ stops) hops h =
     rw (le-leb 0 stop (omega arith), sub-one (suc (length stops)))
     (rising stop stops hops (λ k l. let here = h k (omega arith) in rw (add-one k) at here))
 
@@ -122,7 +122,7 @@ stops_fall (stop ∷ stops) hops k l h = rw (falling stop stops hops k (omega ar
 -- so whether they rise, and the last one, say whether they agree
 pub sorted_stops : (stops : List ℕ) (hops : ℕ) (sorted : Bool) → IsAllAdjacentAnswer (λ x y b. b ≡ leb x y) stops sorted
     → stops_agree 0 stops hops ≡ (sorted && eqb (unwrap_or (slice_get stops (length stops - 1)) 0) hops)
-sorted_stops stops hops true h = rw unwrap_or-slice_get (stops_rise stops hops (λ k l. leb-true _ _ (sym (h k 0 l))))
+sorted_stops stops hops true h = rw unwrap_or-slice_get (rising_agree stops hops (λ k l. leb-true _ _ (sym (h k 0 l))))
 sorted_stops stops hops false h = stops_fall stops hops h.0 h.1 (leb-false _ _ (sym (h.2 0)))
 
 -- the stops from the k-th on

@@ -14,5 +14,5 @@ abbrev pub longest_line : ℕ → ℕ
 longest_line numbers = 2 + 11 * numbers
 
 -- the text of a line of so many numbers; of so many that the place after it may be no 64-bit number, none
-abbrev pub line_told : ℕ → (letter : ℕ) → List ℕ → List ℕ
-line_told count letter numbers = pick (nat_lt count (2 ^ 32)) (line_text letter numbers) []
+abbrev pub line_written : ℕ → (letter : ℕ) → List ℕ → List ℕ
+line_written count letter numbers = pick (nat_lt count (2 ^ 32)) (line_text letter numbers) []

@@ -3,7 +3,7 @@
 // struct with methods on `&mut self` they were tried, and a line took four tenths longer.
 ghost use Rattle.std.specs.Prelude.{[], ◌∷◌, ◌+◌, ◌^◌, ◌≤◌, ◌<◌};
 ghost use Rattle.rules.specs.Bytes.{tab, decimal};
-ghost use Rattle.lines.specs.Put.{Put, longest_line, line_told};
+ghost use Rattle.lines.specs.Put.{Put, longest_line, line_written};
 
 use crate::reading::{LINE_FEED, TAB};
 
@@ -52,7 +52,7 @@ fn field(room: &mut [u8], at: usize, n: u32) -> usize
 // Writes a line of a letter and numbers. Of one with too many numbers to tell where it ends nothing is written.
 #[tactic(auto, using(crate::proofs::Putting::line_steps))]
 pub fn line<const N: usize>(room: &mut [u8], at: u32, letter: u8, numbers: [u32; N]) -> usize
-    ensures put { Put room.old at (line_told N letter numbers.entry) room.new result }
+    ensures put { Put room.old at (line_written N letter numbers.entry) room.new result }
     ensures near { result ≤ at + longest_line N }
 {
     // no call has so many; without this branch the contract would need a `requires`

@@ -52,8 +52,8 @@ module _ (j : Job) (t : tables j ≡ fine) (k : ℕ) (h : k < length j.stops) wh
   unfolding paths
   path_hops = sym (hops_of 0 j.stops j.hops k (job_stops_agree j (accepted_job j t)) h)
 
-  pub stops_rise : get_or (0 ∷ j.stops) k 0 ≤ get_or j.stops k 0
-  stops_rise = (accepted_job j t).stops_fit.rise k _ _ (at-get_or (0 ∷ j.stops) k 0 (omega arith)) (at-get_or j.stops k 0 h)
+  pub stop_rises : get_or (0 ∷ j.stops) k 0 ≤ get_or j.stops k 0
+  stop_rises = (accepted_job j t).stops_fit.rise k _ _ (at-get_or (0 ∷ j.stops) k 0 (omega arith)) (at-get_or j.stops k 0 h)
 
 -- a start and the hops of a path are its end
 pub end-hops : (start : ℕ) (path : List ℕ) {hops end : ℕ} → end ≡ start + hops → hops ≡ length path → end ≡ end_of one_step start path

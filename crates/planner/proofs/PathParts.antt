@@ -43,17 +43,17 @@ stops_after a [] n k h l = absurd (not-suc-le-zero l)
 stops_after a (e ∷ es) n zero h l = (rest a e es n h).rises
 stops_after a (e ∷ es) n (suc k) h l = let r = rest a e es n h in omega (arith, r.rises, stops_after e es n k r.agrees (le_of_suc-le-suc l))
 
-stops_rise : (a : ℕ) (es : List ℕ) (n j k : ℕ) → stops_agree a es n ≡ true → j ≤ k → k < length es → get_or es j 0 ≤ get_or es k 0
-stops_rise a [] n j k h m l = absurd (not-suc-le-zero l)
-stops_rise a (e ∷ es) n zero zero h m l = omega arith
-stops_rise a (e ∷ es) n zero (suc k) h m l = stops_after e es n k (rest a e es n h).agrees (le_of_suc-le-suc l)
-stops_rise a (e ∷ es) n (suc j) zero h m l = absurd (not-suc-le-zero m)
-stops_rise a (e ∷ es) n (suc j) (suc k) h m l = stops_rise e es n j k (rest a e es n h).agrees (le_of_suc-le-suc m) (le_of_suc-le-suc l)
+later_stops : (a : ℕ) (es : List ℕ) (n j k : ℕ) → stops_agree a es n ≡ true → j ≤ k → k < length es → get_or es j 0 ≤ get_or es k 0
+later_stops a [] n j k h m l = absurd (not-suc-le-zero l)
+later_stops a (e ∷ es) n zero zero h m l = omega arith
+later_stops a (e ∷ es) n zero (suc k) h m l = stops_after e es n k (rest a e es n h).agrees (le_of_suc-le-suc l)
+later_stops a (e ∷ es) n (suc j) zero h m l = absurd (not-suc-le-zero m)
+later_stops a (e ∷ es) n (suc j) (suc k) h m l = later_stops e es n j k (rest a e es n h).agrees (le_of_suc-le-suc m) (le_of_suc-le-suc l)
 
 -- no path that stops at a hop or before comes after one that stops behind it
 pub stops_part : {stops hops : List ℕ} (hop : ℕ) → SimplePaths stops hops → IsPartitionedBy (λ stop. leb stop hop) stops
 stops_part {stops} {hops} hop h =
-    IsPartitionedBy-leb (λ stop. stop) stops hop (IsNonDecreasingBy-from_default (λ stop. stop) stops 0 (λ j k m l. stops_rise 0 stops (length hops) j k h.agree m l))
+    IsPartitionedBy-leb (λ stop. stop) stops hop (IsNonDecreasingBy-from_default (λ stop. stop) stops 0 (λ j k m l. later_stops 0 stops (length hops) j k h.agree m l))
 
 -- packet k's path as a part of the hops
 pub record Part (hops path : List ℕ) (from to : ℕ) : Type 0 where
