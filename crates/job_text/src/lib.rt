@@ -33,6 +33,13 @@ fn first(list: &[u16], count: u16) -> &[u16]
     list.get(..usize::from(count)).unwrap_or(list)
 }
 
+// The counts of a job that is begun, which are within their sizes.
+#[derive(Clone, Copy)]
+struct Begun {
+    job: Job,
+    ghost within: { Within job },
+}
+
 impl LentLists<'_> {
     // The job in the first places of the lists, as many as are counted.
     pub fn job(&self, counts: Job) -> JobLists<'_>
@@ -62,13 +69,21 @@ impl LentLists<'_> {
     }
 
     // The verdict on one more packet, whose path stands behind the hops so far. It is called, to leave the registers to the loop over lines.
+    // That the lists have room stands in its contract, and in those of the functions below that are lent them as they are read into: a
+    // struct that held them as `&mut` would owe in each that they are the same references, a clause for the one that its ghost field saved.
     #[inline(never)]
-    fn packet_verdict(&self, job: Job, source: u16, count: usize, line: u32) -> Result<(), Refusal>
-        requires within { Within job }
+    fn packet_verdict(
+        &self,
+        begun: Begun,
+        source: u16,
+        count: usize,
+        line: u32,
+    ) -> Result<(), Refusal>
         requires room { Room (lists_in self.now) }
-        requires path { job.hops + count ≤ hops_most }
-        ensures { verdict_of result ≡ packet_verdict (so_far job (lists_in self.now)).network line source (take count (drop job.hops self.now.hops.now)) }
+        requires path { begun.job.hops + count ≤ hops_most }
+        ensures { verdict_of result ≡ packet_verdict (so_far begun.job (lists_in self.now)).network line source (take count (drop begun.job.hops self.now.hops.now)) }
     {
+        let job = begun.job;
         let links = usize::from(job.links);
         let from = usize::from(job.hops);
         let network = Network {
@@ -181,17 +196,20 @@ fn line_at(text: &[u8], at: usize, hops: &mut [u16], from: usize) -> Option<Foun
     }
 }
 
-// The counts and the lists of the job so far are two arguments, with what is known of them in each contract: a struct that held the lists
-// as `&mut` would owe in each that they are the same references, a clause for each that its ghost fields saved.
-
 // L: one more link.
-fn add_link(line: u32, job: Job, from: u16, to: u16, lists: &mut LentLists) -> Result<(), Refusal>
-    requires within { Within job }
+fn add_link(
+    line: u32,
+    begun: Begun,
+    from: u16,
+    to: u16,
+    lists: &mut LentLists,
+) -> Result<(), Refusal>
     requires room { Room (lists_in lists.old) }
-    ensures took { Took (with_line line (so_far job (lists_in lists.old)) (link from to))
-        (if_fine result (counted_of job (Line.Link from to))) (lists_in lists.new) }
+    ensures took { Took (with_line line (so_far begun.job (lists_in lists.old)) (link from to))
+        (if_fine result (counted_of begun.job (Line.Link from to))) (lists_in lists.new) }
     ensures same { SameLists lists.old lists.new }
 {
+    let job = begun.job;
     let links = usize::from(job.links);
     let packets = usize::from(job.packets);
     let out_of_place = Refusal::BadForm(line);
@@ -211,27 +229,26 @@ fn add_link(line: u32, job: Job, from: u16, to: u16, lists: &mut LentLists) -> R
 // P: one more packet, whose path is judged where it stands, behind the hops so far.
 fn add_packet(
     line: u32,
-    job: Job,
+    begun: Begun,
     source: u16,
     count: usize,
     lists: &mut LentLists,
 ) -> Result<(), Refusal>
-    requires within { Within job }
     requires room { Room (lists_in lists.old) }
-    ensures took { (path : List ℕ) → PathStands count lists.old.hops.now job.hops path → Took
-        (with_line line (so_far job (lists_in lists.old)) (packet_line source path))
-        (if_fine result (counted_of job (Line.Packet source count))) (lists_in lists.new) }
+    ensures took { (path : List ℕ) → PathStands count lists.old.hops.now begun.job.hops path → Took
+        (with_line line (so_far begun.job (lists_in lists.old)) (packet_line source path))
+        (if_fine result (counted_of begun.job (Line.Packet source count))) (lists_in lists.new) }
     ensures same { SameLists lists.old lists.new }
 {
-    let packets = usize::from(job.packets);
-    let from = usize::from(job.hops);
+    let packets = usize::from(begun.job.packets);
+    let from = usize::from(begun.job.hops);
     if packets >= Job::PACKETS {
         return Err(Refusal::Size(line));
     }
     if count > Job::HOPS - from {
         return Err(Refusal::Size(line));
     }
-    lists.packet_verdict(job, source, count, line)?;
+    lists.packet_verdict(begun, source, count, line)?;
     lists.sources[packets] = source;
     // `as` here and below: a proof shows that it fits, and `try_from` would make a case of what cannot be
     lists.stops[packets] = (from + count) as u16;
@@ -239,27 +256,27 @@ fn add_packet(
 }
 
 // A line below the first: what it adds goes into the lists, and `counted` has the counts.
-fn add_line(told: Line, line: u32, job: Job, lists: &mut LentLists) -> Result<(), Refusal>
-    requires within { Within job }
+fn add_line(told: Line, line: u32, begun: Begun, lists: &mut LentLists) -> Result<(), Refusal>
     requires room { Room (lists_in lists.old) }
-    ensures took { (said : Said) → LineAs said told lists.old.hops.now job.hops → Took
-        (with_line line (so_far job (lists_in lists.old)) said) (if_fine result (counted_of job told)) (lists_in lists.new) }
+    ensures took { (said : Said) → LineAs said told lists.old.hops.now begun.job.hops → Took
+        (with_line line (so_far begun.job (lists_in lists.old)) said) (if_fine result (counted_of begun.job told)) (lists_in lists.new) }
     ensures same { SameLists lists.old lists.new }
 {
     match told {
         Line::Nodes(_) => Err(Refusal::BadForm(line)),
-        Line::Link { from, to } => add_link(line, job, from, to, lists),
-        Line::Packet { source, count } => add_packet(line, job, source, count, lists),
+        Line::Link { from, to } => add_link(line, begun, from, to, lists),
+        Line::Packet { source, count } => add_packet(line, begun, source, count, lists),
     }
 }
 
 // The counts with one more line, once that is taken. They are no part of the answer of `add_line`, since to take them out of an
 // enum costs time at each line.
-fn counted(job: Job, told: Line) -> Job
-    requires { Within (counted_of job told) }
-    ensures { result ≡ counted_of job told }
+fn counted(begun: Begun, told: Line) -> Begun
+    requires { Within (counted_of begun.job told) }
+    ensures { result.job ≡ counted_of begun.job told }
 {
-    match told {
+    let job = begun.job;
+    let more = match told {
         Line::Nodes(_) => job,
         Line::Link { .. } => Job {
             links: job.links + 1,
@@ -270,31 +287,31 @@ fn counted(job: Job, told: Line) -> Job
             hops: job.hops + count as u16,
             ..job
         },
-    }
+    };
+    Begun { job: more }
 }
 
 // The lines from a cursor on, which goes from line to line by `moved`: document 01 names this form.
 #[inline(never)]
-fn add_lines(text: &[u8], first: Lines, begun: Job, lists: &mut LentLists) -> Result<Job, Refusal>
-    requires within { Within begun }
+fn add_lines(text: &[u8], first: Lines, top: Begun, lists: &mut LentLists) -> Result<Job, Refusal>
     requires room { Room (lists_in lists.old) }
     requires short { length text.now ≤ text_most }
     requires place { first.line ≤ first.at + 1 }
     ensures took { Took
-        (with_rest first.line (so_far begun (lists_in lists.old)) (split line_feed (drop first.at text.now))) result (lists_in lists.new) }
+        (with_rest first.line (so_far top.job (lists_in lists.old)) (split line_feed (drop first.at text.now))) result (lists_in lists.new) }
     ensures same { SameLists lists.old lists.new }
 {
     let mut cursor = first;
-    let mut job = begun;
+    let mut begun = top;
     while cursor.at < text.len() {
-        let Some(found) = line_at(text, cursor.at, lists.hops, usize::from(job.hops)) else {
+        let Some(found) = line_at(text, cursor.at, lists.hops, usize::from(begun.job.hops)) else {
             return Err(Refusal::BadForm(cursor.line));
         };
-        add_line(found.line, cursor.line, job, lists)?;
-        job = counted(job, found.line);
+        add_line(found.line, cursor.line, begun, lists)?;
+        begun = counted(begun, found.line);
         cursor = cursor.moved(found.end + 1);
     }
-    Ok(job)
+    Ok(begun.job)
 }
 
 // The counts of nothing that was read, or that stays of a text that is refused.
@@ -330,7 +347,7 @@ fn read_lines(text: &[u8], lists: &mut LentLists) -> Result<Job, Refusal>
     };
     let job = first_line(found.line)?;
     let next = Lines::top().moved(found.end + 1);
-    add_lines(text, next, job, lists)
+    add_lines(text, next, Begun { job }, lists)
 }
 
 // Zeros from a place on.

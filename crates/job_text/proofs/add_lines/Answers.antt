@@ -25,7 +25,7 @@ loop-cursor-preserved c =
     let f = c.in-Some.ensures in
     let t = c.in_ok-add_line.ensures in
     let long : SameLengths (lists_in c.loop-cursor.lists) (lists_in c.add_line.new.lists) = search rules in (
-      going_on c.loop-cursor.invariant.0 c.loop-cursor-test.true c.line_at.new.hops f.before c.from.ensures c.in-Some.found.end (t.took _ (told_from f.told.line c.from.ensures)) c.counted-job.ensures long f.told.ends c.moved-cursor.ensures,
+      going_on c.loop-cursor.invariant.0 c.loop-cursor-test.true c.line_at.new.hops f.before c.from.ensures c.in-Some.found.end (t.took _ (told_from f.told.line c.from.ensures)) c.counted-begun.ensures long f.told.ends c.moved-cursor.ensures,
       search rules,
     )
 

@@ -10,7 +10,7 @@ use Rattle.job_text.proofs.add_lines.Given as goal
 abbrev pub invariant-loop-cursor : goal.invariant-loop-cursor
 invariant-loop-cursor l =
     let i = l.initial in
-    Going l.text (with_rest i.cursor.line (so_far i.job (lists_in i.lists)) (split line_feed (drop i.cursor.at l.text))) (lists_in l.lists) l.cursor l.job
+    Going l.text (with_rest i.cursor.line (so_far i.begun.job (lists_in i.lists)) (split line_feed (drop i.cursor.at l.text))) (lists_in l.lists) l.cursor l.begun.job
     × SameLists i.lists l.lists
 
 abbrev pub decreases-loop-cursor : goal.decreases-loop-cursor

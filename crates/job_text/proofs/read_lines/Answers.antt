@@ -12,8 +12,8 @@ returns-in_err-job-clause-took c =
     let e : c.from_residual.result ≡ Err c.in_err-job.field-0.0 = search rules in
     rw e (first_refused _ (first_took c.in-Some.ensures.told.line c.in_err-job.ensures (lists_in c.args.lists.now)))
 
-pub add_lines-requires-clause-within : goal.add_lines-requires-clause-within
-add_lines-requires-clause-within c = let t = first_took c.in-Some.ensures.told.line c.in_ok-job.ensures (lists_in c.args.lists.now) in t.within
+pub invariant_of-add_lines : goal.invariant_of-add_lines
+invariant_of-add_lines c = let t = first_took c.in-Some.ensures.told.line c.in_ok-job.ensures (lists_in c.args.lists.now) in record { within = t.within }
 
 pub returns-clause-took : goal.returns-clause-took
 returns-clause-took c =
