@@ -35,11 +35,23 @@ pub fn both() -> u32
 {
     MOST + LEAST
 }
+
+const HIGH: u32 = 4;
+
+const LOW: u32 = 1;
+
+pub fn sizes()
+    ensures high { HIGH ≡ 4 }
+    ensures low { LOW ≡ 1 }
+{}
 """
 ONE = '# one: one less\nfile: src/lib.rt\nold:     a + 1 - 1\nnew:     a + 1 - 2\n'
 TWO = '# two: two more\nfile: src/lib.rt\nold:     a + 2 - 2\nnew:     a + 2 - 0\n'
 SEVEN = '# seven: not seven\n# shows: most\nfile: src/lib.rt\nold: MOST: u32 = 7;\nnew: MOST: u32 = 8;\n'
 LEAST = '# three: not two\n# shows: both\nfile: src/lib.rt\nold: LEAST: u32 = 2;\nnew: LEAST: u32 = 3;\n'
+HIGH = '# high: not four\n# shows: sizes clause high\nfile: src/lib.rt\nold: HIGH: u32 = 4;\nnew: HIGH: u32 = 5;\n'
+LOW = '# low: not one\n# shows: sizes clause low\nfile: src/lib.rt\nold: LOW: u32 = 1;\nnew: LOW: u32 = 2;\n'
+CLAUSE = f'note: src/lib.rt:{TOY.split("pub fn sizes")[0].count(chr(10)) + 1}:1: it is not proved that what the function ensures holds (`returns-clause-%s`)\n'
 HARMLESS = '# none: nothing less\nfile: src/lib.rt\nold:     a + 3 - 3\nnew:     a + 4 - 4\n'
 SAME = '# same: two more\nfile: src/lib.rt\nold:     a + 1\nnew:     a + 3\n'  # as ONE, in first
 FORM = ONE.replace('- 2', '- 3 + 1').replace('file:', '# form: one less all the same\nfile:')
@@ -163,6 +175,11 @@ def run(page):
         ('a constant without what shows it', alone(SEVEN.replace('# shows: most\n', '')), '', nothing, 'a line "# shows: NAME" has to'),
         ('a constant shown by another', alone(SEVEN.replace('shows: most', 'shows: first')), '', nothing, 'first does not name MOST'),
         ('two constants in one function', alone(f'{SEVEN}\n{LEAST}'), '', nothing, 'names MOST too, which seven changes'),
+        ('two constants, each with its clause', alone(f'{HIGH}\n{LOW}'), CLAUSE % 'high' + CLAUSE % 'low', nothing, None),
+        ('a constant whose clause still holds', alone(f'{HIGH}\n{LOW}'), CLAUSE % 'high', nothing, 'low: sizes shows no fact'),
+        ('a constant shown by another clause', alone(HIGH.replace('clause high', 'clause low')), CLAUSE % 'high', nothing, 'high: sizes shows no fact'),
+        ('a clause that is not there', alone(HIGH.replace('clause high', 'clause middle')), '', nothing, 'sizes has no clause middle'),
+        ('two constants in one clause', alone(HIGH + '\n' + LOW.replace('clause low', 'clause high')), '', nothing, 'has to stand alone'),
         ('a harmless step more', alone(ONE.replace('- 2', '- 2 + 1')), '', nothing, 'one: it adds or takes away a step of first'),
         ('a step more, with its reason', alone(FORM), FACT_ONE, nothing, None),
         ('a reason for no step more', alone(FORM.replace('- 3 + 1', '- 2')), '', nothing, 'no "# form:" line'),
