@@ -69,8 +69,8 @@ impl LentLists<'_> {
     }
 
     // The verdict on one more packet, whose path stands behind the hops so far. It is called, to leave the registers to the loop over lines.
-    // That the lists have room stands in its contract, and in those of the functions below that are lent them as they are read into: a
-    // struct that held them as `&mut` would owe in each that they are the same references, a clause for the one that its ghost field saved.
+    // That the lists have room is a clause here and below, and no ghost field: a struct that held them as `&mut` would owe in each contract
+    // that they are the same ones, so a clause for the one saved.
     #[inline(never)]
     fn packet_verdict(
         &self,
