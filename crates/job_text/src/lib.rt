@@ -16,7 +16,7 @@ ghost use Rattle.job_text.specs.SoFar.{so_far, counted_of, if_fine, Room, Within
 use job::{Job, JobLists, Network, Refusal, link_verdict};
 use lines::reading::{Copied, Lines, begins_at, copy_behind, field_behind, letter_at};
 
-// The five lists that a job is read into, lent by whoever wants it.
+// The five lists that a job is read into, lent by whoever wants it: nothing is allocated.
 #[derive(Drop)]
 pub struct LentLists<'a> {
     pub origins: &'a mut [u16],
@@ -69,8 +69,8 @@ impl LentLists<'_> {
     }
 
     // The verdict on one more packet, whose path stands behind the hops so far. It is called, to leave the registers to the loop over lines.
-    // That the lists have room stands in its contract, and in those of the functions below that are lent them as they are read into: a
-    // struct that held them as `&mut` would owe in each that they are the same references, a clause for the one that its ghost field saved.
+    // That the lists have room is a clause here and below, and no ghost field: a struct that held them as `&mut` would owe in each contract
+    // that they are the same ones, so a clause for the one saved.
     #[inline(never)]
     fn packet_verdict(
         &self,
@@ -292,6 +292,7 @@ fn counted(begun: Begun, told: Line) -> Begun
 }
 
 // The lines from a cursor on, which goes from line to line by `moved`: document 01 names this form.
+// That the text is short stands in the contracts from here to `fill`: it is a fact of a lent text, which `read` learns by its first test.
 #[inline(never)]
 fn add_lines(text: &[u8], first: Lines, top: Begun, lists: &mut LentLists) -> Result<Job, Refusal>
     requires room { Room (lists_in lists.old) }
