@@ -6,15 +6,11 @@ use mathlib.Core.Logic.{◌↔◌}
 use mathlib.Core.Option.{Option, some}
 use Prim.Native.Nat.{ℕ, ◌+◌, ◌-◌, ◌≤◌, ◌<◌}
 use native.Mathlib.Omega.{arith}
-use lib.Dec.{eqb}
+use lib.Dec.{eqb, ltb}
 use lib.ListN.{length, get_or, get_elem?}
-use borrow.Author.Tests.{eqb-true, eq-eqb}
+use borrow.Author.Tests.{eqb-true, eq-eqb, le-ltb}
 use Rattle.counting.proofs.Tests.{false_of_not_true, same_of_iff}
 use Rattle.counting.proofs.Places.{some_same, at_below, at-get_or}
-use denote.Bor.{Bor}
-use Rattle.std.specs.Prelude.{Option as Found, Some, None, MatchOption}
-use Rattle.std.specs.Option.{option_eq}
-use Rattle.std.specs.List.{HoldsAt}
 use Rattle.rules.specs.Travel.{one_step}
 use Rattle.rules.specs.Claims.{place, takes}
 use Rattle.theorems.proofs.Conflicts.{takes-iff, links_mean}
@@ -33,10 +29,10 @@ module _ (start : ℕ) (path : List ℕ) (link step : ℕ) where
   pub before-start : step < start → false ≡ takes (place start (path_claims path)) link step
   before-start l = sym (false_of_not_true _ (λ e. let h = takes_at_hop.0 e in omega (arith, h.2)))
 
-  past_path : start ≤ step → length path ≤ step - start → false ≡ takes (place start (path_claims path)) link step
-  past_path l m = sym (false_of_not_true _ (λ e. let h = takes_at_hop.0 e in omega (arith, h.2, at_below path h.0 h.1)))
+  pub past_path : start ≤ step → length path ≤ step - start → ltb (step - start) (length path) ≡ takes (place start (path_claims path)) link step
+  past_path l m = le-ltb _ _ m ∙ sym (false_of_not_true _ (λ e. let h = takes_at_hop.0 e in omega (arith, h.2, at_below path h.0 h.1)))
 
-  on_path : start ≤ step → step - start < length path → eqb (get_or path (step - start) 0) link ≡ takes (place start (path_claims path)) link step
+  pub on_path : start ≤ step → step - start < length path → eqb (get_or path (step - start) 0) link ≡ takes (place start (path_claims path)) link step
   on_path l m = same_of_iff _ _ (λ e. takes_at_hop.1 (here e)) (λ e. there (takes_at_hop.0 e))
     where
       here : eqb (get_or path (step - start) 0) link ≡ true → (hop : ℕ) × (get_elem? path hop ≡ some link) × (start + hop ≡ step)
@@ -46,10 +42,3 @@ module _ (start : ℕ) (path : List ℕ) (link step : ℕ) where
       there (hop, at, then_step) =
           let same : hop ≡ step - start = omega (arith, then_step) in
           eq-eqb _ _ (some_same (sym (at-get_or path (step - start) 0 m) ∙ ap (get_elem? path) (sym same) ∙ at))
-
--- what stands at the hop, if the path has it, is compared with the link
-pub at_hop : (start : ℕ) (path : List ℕ) (link : Bor ℕ) (step hop : ℕ) → start ≤ step → hop ≡ step - start → (found : Found (Bor ℕ))
-    → MatchOption found (length path ≤ hop) (λ on. (hop < length path) × HoldsAt (λ there. on.now ≡ there) path hop)
-    → option_eq (λ on here. eqb on.now here.now) found (Some link) ≡ takes (place start (path_claims path)) link.now step
-at_hop start path link step hop l is None m = past_path start path link.now step l (omega arith)
-at_hop start path link step hop l is (Some on) m = rw (m.1 0, is) (on_path start path link.now step l (omega (arith, m.0)))

@@ -30,11 +30,14 @@ const WORDS: usize = Job::HOPS / 64 + 1;
 pub fn enters(path: &[u16], start: u16, link: u16, step: Step) -> bool
     ensures { result ≡ takes (place start (path_claims path.now)) link step.0 }
 {
-    let Some(hop) = step.0.checked_sub(u32::from(start)) else {
+    let begun = u32::from(start);
+    if step.0 < begun {
         return false;
-    };
+    }
     // `as`: std has no `usize::from` for 32 bits
-    path.get(hop as usize) == Some(&link)
+    let hop = (step.0 - begun) as usize;
+    // no `get`: it leaves no place past the path to look at, which the mistake `past_the_path` does
+    hop < path.len() && path[hop] == link
 }
 
 // Starts one packet after the other, over the first places: each searches among the entries of those before it and then adds its own.
