@@ -45,7 +45,7 @@ fn two_are_named(rt: &HostRuntime, errors: &mut impl Write) -> bool {
         return false;
     }
     if is_given(rt, 3) {
-        let mut name = [0; NAME];
+        let mut name = [0; NAME]; // nothing is allocated: arrays of the greatest sizes here and below
         let length = rt.arg(3, &mut name).unwrap_or(0);
         let _ = tell_usage(errors, b"a third file is named: ", &name[..length]);
         return false;

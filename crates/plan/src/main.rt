@@ -36,7 +36,7 @@ pub fn print<R: Read, W: Write>(job: &mut R, out: &mut W) -> Result<(), Failure>
     ensures written { OnOk result (IfSome (R.remaining job.old) (λ text. Appends (W.contents out.old) (W.contents out.new) (plans text))) }
     ensures unread { (error : Error) → result ≡ Err (Failure.Reading error) → Keeps (W.contents out.old) (W.contents out.new) }
 {
-    let mut text = [0; Job::TEXT + 1];
+    let mut text = [0; Job::TEXT + 1]; // nothing is allocated: arrays of the greatest sizes here and below
     let bytes = read_all(job, &mut text)?;
     let mut room = [0; ROOM];
     let count = answer::print(&text[..bytes], &mut room);
