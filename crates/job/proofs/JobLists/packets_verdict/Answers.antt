@@ -1,27 +1,24 @@
 -- Each turn judges the first packet that is left, whose path lies within the hops.
-use Rattle.std.proofs.Common.{◌≡◌, true, ◌+◌, ◌≤◌, length, drop, Err, refl, sym, ◌∙◌, arith, rules}
-use Rattle.std.proofs.lemmas.List.{length_push}
+use Rattle.std.proofs.Common.{◌≡◌, true, ◌+◌, ◌≤◌, ◌<◌, length, get_or, drop, Err, refl, sym, ◌∙◌, arith, rules}
 use Rattle.rules.specs.Network.{paths}
 use Rattle.rules.specs.Tables.{stops_agree}
-use Rattle.job.proofs.Pairs.{AtPair, pair_turn, pair_end}
+use Rattle.job.proofs.Pairs.{AtPair}
 use Rattle.job.proofs.VerdictLoops.{stops_part, packets_refused, packets_on, packets_done}
 use Rattle.job.proofs.JobLists.packets_verdict.Goals.{After-from-to}
 use Rattle.job.proofs.JobLists.packets_verdict.Goals as goal
 
 here : (c : After-from-to)
     → let j = c.args.self.now in
-    AtPair j.sources.now j.stops.now (length c.loop-k.yielded) (c.in-Some.k, (c.in-Some.field-0-1-0.now, c.in-Some.field-0-1-1.now))
-here c = pair_turn _ _ c.into_iter-k-iterator.result (cc) (cc) (cc) c.loop-k.yielded c.loop-k.k-iterator c.next.new.self c.loop-k.yielded_by c.in-Some.is c.next.ensures.steps
+    AtPair j.sources.now j.stops.now c.loop-k.k (c.loop-k.k, (get_or j.sources.now c.loop-k.k 0, get_or j.stops.now c.loop-k.k 0))
+here c = record { first = omega arith; second = omega arith; number = refl; one = refl; other = refl }
 
 -- the path that is lent lies within the hops
 part : (c : After-from-to)
     → let j = c.args.self.now in
     let to = c.from-to.result in
     let hops = length j.hops.now in
-    (c.loop-k.from ≤ to) × (to ≤ hops) × (stops_agree to (drop (length c.loop-k.yielded + 1) j.stops.now) hops ≡ true)
-part c =
-    let at = here c in
-    stops_part c.args.self.now.hops.now _ c.args.self.now.stops.now (length c.loop-k.yielded) (c.from-to.ensures ∙ at.other) at.second c.loop-k.invariant.0
+    (c.loop-k.from ≤ to) × (to ≤ hops) × (stops_agree to (drop (c.loop-k.k + 1) j.stops.now) hops ≡ true)
+part c = stops_part c.args.self.now.hops.now _ c.args.self.now.stops.now c.loop-k.k c.from-to.ensures (here c).second c.loop-k.invariant.0
 
 pub loop-k-init : goal.loop-k-init
 unfolding paths
@@ -48,11 +45,7 @@ returns-in_err-packet_verdict c =
 pub loop-k-preserved : goal.loop-k-preserved
 loop-k-preserved c =
     let at = here (goal.at.loop-k-preserved c).After-from-to in
-    rw (length_push c.loop-k.yielded (c.in-Some.k, (c.in-Some.field-0-1-0, c.in-Some.field-0-1-1)))
     ((part (goal.at.loop-k-preserved c).After-from-to).2, c.loop-k.invariant.1 ∙ packets_on _ _ _ _ _ _ at c.from-to.ensures c.in_ok-packet_verdict.ensures)
 
 pub returns : goal.returns
-returns c =
-    let j = c.args.self.now in
-    let all = pair_end j.sources.now j.stops.now c.into_iter-k-iterator.result (cc) (cc) (cc) c.loop-k.yielded c.loop-k.k-iterator c.next.new.self c.loop-k.yielded_by c.in-None.is c.next.ensures.steps in
-    sym (c.loop-k.invariant.1 ∙ packets_done _ _ _ _ _ _ (omega (arith, all)))
+returns c = sym (c.loop-k.invariant.1 ∙ packets_done _ _ _ _ _ _ (omega arith))

@@ -9,6 +9,5 @@ use Rattle.job.proofs.JobLists.packets_verdict.Given as goal
 abbrev pub invariant-loop-k : goal.invariant-loop-k
 invariant-loop-k l =
     let j = job_in l.self in
-    let k = length l.yielded in
-    (stops_agree l.from (drop k j.stops) (length j.hops) ≡ true)
-    × (packets_verdict j.network 0 j.sources (paths j) ≡ packets_left j.network j.sources j.stops j.hops l.from k)
+    (stops_agree l.from (drop l.k j.stops) (length j.hops) ≡ true)
+    × (packets_verdict j.network 0 j.sources (paths j) ≡ packets_left j.network j.sources j.stops j.hops l.from l.k)
