@@ -1,10 +1,10 @@
 -- Texts written one after another: both together are written, and what is left of the whole after the first is the second.
-use mathlib.Core.Path.{◌≡◌, sym, ◌∙◌}
+use mathlib.Core.Path.{◌≡◌, sym, ap, ◌∙◌}
 use mathlib.Core.List.{List, [], ◌∷◌, ◌++◌}
 use Prim.Native.Nat.{ℕ, suc, ◌+◌, ◌/◌, ◌^◌, ◌≤◌, ◌<◌}
 use native.Mathlib.Omega.{arith}
 use lib.ListN.{length, get_or, drop, set, length-append, drop_of_length-le}
-use lib.Seq.{sets}
+use lib.Seq.{sets, set-get_or}
 use Rattle.counting.proofs.Places.{from_place}
 use Rattle.rules.specs.Bytes.{tab, line_feed, decimal, fields_text, line_text}
 use Rattle.theorems.proofs.Numbers.{decimal_small, decimal-more, decimal-length-le}
@@ -52,10 +52,11 @@ module _ {before : List ℕ} {at letter : ℕ} {numbers room : List ℕ} {place 
   unfolding fields_text
   fields_turn h p = record { rest = λ q. w.rest (rw (from_place numbers k h) (put_then p q)) }
 
-  pub fields_done : {after : List ℕ} {next : ℕ} → length numbers ≤ k → Put room place (line_feed ∷ []) after next
-      → Put before at (line_text letter numbers) after next
+  -- the line is that of the given numbers where those gone over are the same
+  pub fields_done : {given after : List ℕ} {next : ℕ} → numbers ≡ given → length given ≤ k → Put room place (line_feed ∷ []) after next
+      → Put before at (line_text letter given) after next
   unfolding fields_text
-  fields_done h p = w.rest (rw (drop_of_length-le numbers {i = k} h) p)
+  fields_done e h p = rw (← e) (w.rest (rw (drop_of_length-le numbers {i = k} (omega (arith, h, ap length e))) p))
 
--- what is left when all but one step of them is done
-pub ruleset line_steps = (fields_start, fields_turn)
+-- what is left when all but one step of them is done; a number that is stored in its own place changes nothing
+pub ruleset line_steps = (fields_start, fields_turn, set-get_or)

@@ -6,4 +6,4 @@ use Rattle.lines.proofs.writing.line.Goals as goal
 
 pub returns-clause-put : goal.returns-clause-put
 returns-clause-put g c =
-    rw (lt-ltb g.row.N (2 ^ 32) (omega arith)) (fields_done c.loop-n.invariant.left (omega arith) c.byte.ensures)
+    rw (lt-ltb g.row.N (2 ^ 32) (omega arith)) (fields_done c.loop-n.invariant.left c.loop-n.invariant.same (omega arith) c.byte.ensures)
