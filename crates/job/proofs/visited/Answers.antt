@@ -1,5 +1,6 @@
 -- After the source, the node is sought among those that the links enter.
-use Rattle.std.proofs.Common.{slice_get, ◌∙◌, rules, tests}
+use Rattle.std.proofs.Common.{slice_get, ◌∙◌, arith, rules, tests}
+use Rattle.std.proofs.lemmas.Grind.{common_steps}
 use Rattle.std.proofs.lemmas.Iterator.{YieldsList-from_slice}
 use Rattle.std.proofs.lemmas.Iterator.Search.{any_from_yields_List}
 use borrow.Author.Tests.{ne_eqb}
@@ -11,5 +12,5 @@ pub returns-else-source-node : goal.returns-else-source-node
 returns-else-source-node c =
     let a = c.args in
     rw (ne_eqb a.source a.node c.if-source-node.false)
-    (any_from_yields_List (λ l. is_node (slice_get a.ends.now l) a.node) _ _ _ c.any.ensures.ran (YieldsList-from_slice a.links.now cc) (λ x b q k. search (rules, tests))
+    (any_from_yields_List (λ l. is_node (slice_get a.ends.now l) a.node) _ _ _ c.any.ensures.ran (YieldsList-from_slice a.links.now (grind (arith, common_steps))) (λ x b q k. search (rules, tests))
     ∙ any_enters a.ends.now a.node a.links.now)
