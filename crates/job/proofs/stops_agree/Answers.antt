@@ -12,7 +12,7 @@ sorted c = c.is_sorted_by.ensures.cases nat_le (answers_always _ _ _ (λ f a r g
 pub returns-then-is_sorted_by : goal.returns-then-is_sorted_by
 returns-then-is_sorted_by c =
     let last : c.from.result ≡ unwrap_or (slice_get c.args.stops.now (length c.args.stops.now - 1)) 0 = rw (c.from.ensures, c.unwrap_or-last.ensures, c.copied.ensures, c.last.ensures.value) in
-    rw (last, sorted_stops c.args.stops.now c.args.hops _ (sorted (goal.at.returns-then-is_sorted_by c).After-is_sorted_by), c.if-is_sorted_by.true)
+    rw (last, sorted_stops c.args.stops.now c.args.hops _ (sorted (goal.at.returns-then-is_sorted_by c).After-is_sorted_by), c.if-is_sorted_by.true) (search (rules, tests))
 
 pub returns-else-is_sorted_by : goal.returns-else-is_sorted_by
 returns-else-is_sorted_by c = rw (sorted_stops c.args.stops.now c.args.hops _ (sorted (goal.at.returns-else-is_sorted_by c).After-is_sorted_by), c.if-is_sorted_by.false)
