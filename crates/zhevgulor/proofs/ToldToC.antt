@@ -16,7 +16,7 @@ use Rattle.theorems.proofs.Accepted.{tables-fine-iff}
 use Rattle.theorems.proofs.Demands.{starts_count}
 use Rattle.job.specs.declared.Refusal.{Refusal}
 use Rattle.job.specs.declared.Refusal.TheVariants.{ShortRoom}
-use Rattle.job.specs.Told.{refusal_of}
+use Rattle.job.specs.Told.{refusal_of, verdict_of}
 use Rattle.planner.specs.declared.Clash.{Clash}
 use Rattle.planner.specs.Told.{PlannedAs, found_of}
 use Rattle.planner.proofs.Obeys.{planned-greedy}
@@ -35,6 +35,11 @@ text_told o w t = record { answered = t ∙ ap answer_for w.bytes; list = w.room
 refused_told : (o : Outcome (List ℕ)) (r : Refusal) → refusal_of r ≡ onward o (λ a. fine) → refusal_of r ≡ onward o (λ a. is (length a))
 refused_told (is a) r e = absurd (refused_not_is e)
 refused_told (refused n p) r e = refused_for e
+
+-- a refusal told by a verdict, and the lent list as the answer leaves it
+module _ (answer : Outcome (List ℕ)) (v : Result Unit Refusal) (lent after : List ℕ) (same : verdict_of v ≡ onward answer (λ a. fine)) (list : after ≡ lent_after answer lent) where
+  lent_refused : (r : Refusal) (told : Answer) → v ≡ Err r → told ≡ answer_for (refusal_of r) → LentAs answer told lent after
+  lent_refused r told e t = record { answered = t ∙ ap answer_for (refused_told answer r (rw e at same)); list = list }
 
 -- ---- starts, as many as there are packets, which are few
 
