@@ -16,10 +16,11 @@ use Rattle.rules.specs.Network.{Job, paths}
 use Rattle.rules.specs.Outcome.{is, refused, fine}
 use Rattle.rules.specs.Tables.{tables}
 use Rattle.rules.specs.Travel.{one_step, delay_of}
+use Rattle.rules.specs.Counts.{link_count}
 use Rattle.rules.specs.Bytes.{letter_t, line_text}
 use Rattle.rules.specs.PlanText.{packet_lines, text_of_plan}
 use Rattle.rules.specs.Answers.{started_verdict, in_room, lent_after, written}
-use Rattle.theorems.specs.Jobs.{IsStarted}
+use Rattle.theorems.specs.Jobs.{IsJob, IsStarted}
 use Rattle.theorems.proofs.Accepted.{tables-fine-iff}
 use Rattle.theorems.proofs.Started.{started_fine-iff, started_plan_length}
 use Rattle.job.specs.declared.Refusal.{Refusal}
@@ -27,9 +28,11 @@ use Rattle.job.specs.declared.Refusal.TheVariants.{ShortRoom}
 use Rattle.job.specs.Told.{refusal_of}
 use Rattle.lines.specs.Put.{Put}
 use Rattle.lines.proofs.Putting.{put_then}
+use Rattle.plan_text.specs.HopsInLists.{Writable}
 use Rattle.plan_text.specs.LastLine.{CountsOf}
 use Rattle.plan_text.specs.declared.Counts.{Counts}
 use Rattle.plan_text.specs.Told.{WrittenAs}
+use Rattle.plan_text.proofs.Loads.{few_links, few_hops, hop_below}
 
 -- ---- the text of a job by its parts
 
@@ -45,6 +48,19 @@ pub ample_room : (j : Job) (starts : List ℕ) {bytes : ℕ} → started_verdict
 ample_room j starts {bytes} started ample =
     let fits : length (text_of_plan j starts) ≤ bytes = omega (arith, ample, started_plan_length j starts started) in
     sym (le-leb _ _ fits)
+
+-- ---- the lists of a job
+
+pub lists_writable : {j : Job} {starts : List ℕ} → IsJob j → length starts ≡ length j.stops → Writable (link_count j) j.stops j.hops starts
+lists_writable {j} job count =
+    let t : tables j ≡ fine = (tables-fine-iff j).1 job in
+    record {
+      rising = record { rise = job.stops_fit.rise };
+      linked = record { few = few_hops j t; links = hop_below j t };
+      few_links = few_links j t;
+      few_packets = omega (arith, job.stops_count, job.few_packets);
+      count = count;
+    }
 
 -- ---- the ways out
 

@@ -1,3 +1,4 @@
+pub mod HopsInLists
 pub mod LastLine
 pub mod PlanLines
 pub mod Told
