@@ -1,5 +1,5 @@
 -- The job, the text's length, its lines, the room.
-use Rattle.std.proofs.Common.{◌≡◌, Err, [], sym, ◌∙◌, rules, length-take-le}
+use Rattle.std.proofs.Common.{◌≡◌, Err, [], sym, ◌∙◌, rules, arith, length-take-le}
 use Rattle.plan_text.proofs.ReadingBack.{back_no_job, back_too_long, back_lines_refused, found_room, back_no_room, back_starts}
 use Rattle.plan_text.proofs.reading.read.Goals as goal
 
@@ -20,18 +20,18 @@ pub returns-then-packets-starts : goal.returns-then-packets-starts
 returns-then-packets-starts c = back_no_room _ _ _ c.in_ok-tables.ensures c.if-text-gt-TEXT.false _ c.in_ok-found.ensures c.if-packets-starts.true
 
 pub slice_bounds-found-end : goal.slice_bounds-found-end
-slice_bounds-found-end c = found_room _ _ [] c.in_ok-tables.ensures c.if-text-gt-TEXT.false _ c.in_ok-found.ensures
+slice_bounds-found-end c = omega (arith, found_room _ _ [] c.in_ok-tables.ensures c.if-text-gt-TEXT.false _ c.in_ok-found.ensures)
 
 pub slice_bounds-copy_from_slice-end-3 : goal.slice_bounds-copy_from_slice-end-3
 slice_bounds-copy_from_slice-end-3 c =
-    sym (length-take-le _ _ (found_room _ _ [] c.in_ok-tables.ensures c.if-text-gt-TEXT.false _ c.in_ok-found.ensures))
+    sym (length-take-le _ _ (omega (arith, found_room _ _ [] c.in_ok-tables.ensures c.if-text-gt-TEXT.false _ c.in_ok-found.ensures)))
 
 pub copy_from_slice-requires : goal.copy_from_slice-requires
 copy_from_slice-requires c =
-    length-take-le _ _ c.if-packets-starts.false
-    ∙ sym (length-take-le _ _ (found_room _ _ [] c.in_ok-tables.ensures c.if-text-gt-TEXT.false _ c.in_ok-found.ensures))
+    length-take-le _ _ (omega (arith, c.if-packets-starts.false))
+    ∙ sym (length-take-le _ _ (omega (arith, found_room _ _ [] c.in_ok-tables.ensures c.if-text-gt-TEXT.false _ c.in_ok-found.ensures)))
 
 pub returns : goal.returns
 returns c =
     back_starts _ _ _ c.in_ok-tables.ensures c.if-text-gt-TEXT.false _ c.in_ok-found.ensures c.if-packets-starts.false
-    c.copy_from_slice.ensures.after
+    (omega arith) c.copy_from_slice.ensures.after
