@@ -1,3 +1,4 @@
+pub mod WholeLists
 pub mod PathParts
 pub mod Entering
 pub mod Filling

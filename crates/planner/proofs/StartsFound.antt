@@ -1,5 +1,5 @@
 -- The first start without a mark is the first free step: a start is marked exactly where a packet that stands blocks it.
-use mathlib.Core.Path.{◌≡◌, sym, ◌∙◌}
+use mathlib.Core.Path.{◌≡◌, subst, sym, ◌∙◌}
 use mathlib.Core.List.{List}
 use Prim.Native.Nat.{ℕ, ◌+◌, ◌*◌, ◌≤◌, ◌<◌}
 use native.Mathlib.Omega.{arith, by_contra}
@@ -22,11 +22,11 @@ module _ (path firsts nexts steps : List ℕ) (bs : List Placed) (entries : Entr
   ruled_out-iff-blocked s = any_same _ _ cs (λ c. entries.same c.resource (s + c.offset)) ∙ sym (blocked-taken bs cs s)
 
   -- the words were cleared, and then the starts marked that are ruled out
-  module _ (n : ℕ) (cleared words : List ℕ) (is_cleared : cleared ≡ unmarked n)
-      (ruled : MarksAdded path firsts nexts steps cleared words) where
+  module _ (n : ℕ) (cleared words : List ℕ) (is_cleared : cleared ≡ unmarked n) {along : List ℕ}
+      (ruled : MarksAdded along firsts nexts steps cleared words) (same : along ≡ path) where
     marked-iff-blocked : (s : ℕ) → s < 64 * n → marked words s ≡ blocked bs cs s
     marked-iff-blocked s l =
-        ruled s (rw (is_cleared, length-unmarked n) l) ∙ rw (is_cleared, none_marked n s) (ruled_out-iff-blocked s)
+        subst (λ on. MarksAdded on firsts nexts steps cleared words) same ruled s (rw (is_cleared, length-unmarked n) l) ∙ rw (is_cleared, none_marked n s) (ruled_out-iff-blocked s)
 
     pub first_free-found : (r : ℕ) → FirstUnmarked words r → 64 * n ≤ numbers_most → first_free bs cs < 64 * n → r ≡ first_free bs cs
     first_free-found r first few within = first_free_unique bs cs r (first_free bs cs) is_first (first_free_is bs cs)

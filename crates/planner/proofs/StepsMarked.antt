@@ -123,13 +123,17 @@ wiped_word words n at other = go (eqb (n / 64) at) refl
     go false e = get_or-set_other words (n / 64) at 0 0 (λ q. eqb-false (n / 64) at e (sym q)) ∙ other e
 
 module _ {steps before words : List ℕ} {i : ℕ} (w : WipedTo steps before words i) where
-  pub wiped_to_turn : {step : ℕ} → i < length steps → step ≡ get_or steps i 0 → WipedTo steps before (wiped words step) (i + 1)
-  wiped_to_turn {step} more e = record {
-    long = length-wiped words step ∙ w.long;
-    within = λ at none. wiped_word words step at (λ other. w.within at (rw (from_place steps i more, ← e, other) none));
-  }
+  -- those that are gone over are the steps
+  pub wiped_to_turn : {over : List ℕ} {step : ℕ} → i < length over → step ≡ get_or over i 0 → over ≡ steps → WipedTo steps before (wiped words step) (i + 1)
+  wiped_to_turn {step = step} more e same =
+      let more : i < length steps = rw (← same) more in
+      let e : step ≡ get_or steps i 0 = rw (← same) e in
+      record {
+        long = length-wiped words step ∙ w.long;
+        within = λ at none. wiped_word words step at (λ other. w.within at (rw (from_place steps i more, ← e, other) none));
+      }
 
-  pub wiped_to_done : length steps ≤ i → words ≡ unmarked (length before)
-  wiped_to_done all =
-      let zeros = rw (drop_of_length-le steps {i = i} all) at w.within in
+  pub wiped_to_done : {over : List ℕ} → length over ≤ i → over ≡ steps → words ≡ unmarked (length before)
+  wiped_to_done all same =
+      let zeros = rw (drop_of_length-le steps {i = i} (rw (← same) all)) at w.within in
       rw (← w.long) (ext_get_or 0 words (unmarked (length words)) (sym (length-unmarked (length words))) (λ at l. zeros at refl ∙ sym (zero_word (length words) at)))
