@@ -10,4 +10,4 @@ unfolding packet_enters
 returns c =
     let s = c.args.self.now in
     holder_found s.paths.stops.now s.paths.hops.now s.starts.now c.args.k (omega (arith, s.as_many)) c.requires c.args.link c.args.step.0
-    c.find.result (search (rules, ranges))
+    _ (search (rules, ranges))
