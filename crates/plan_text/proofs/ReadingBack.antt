@@ -62,9 +62,14 @@ module _ (j : Job) (plan lent : List ℕ) where
             let z = lt-leb (length (take (length j.sources) found)) (length lent) (omega (arith, l, count)) in
             record { verdict = rw (said_so, z); starts = rw (said_so, z) }
 
-        pub back_starts : length j.sources ≤ length lent → {n : ℕ} → n ≡ length j.sources → {front : List ℕ} → front ≡ take n found
-            → Back (Ok tt) (front ++ drop n lent)
+        pub back_starts : length j.sources ≤ length lent → {front : List ℕ} → front ≡ take (length j.sources) found
+            → Back (Ok tt) (front ++ drop (length j.sources) lent)
         unfolding plan_read_in in_room lent_after
-        back_starts l e copied =
+        back_starts l copied =
             let z = le-leb (length (take (length j.sources) found)) (length lent) (omega (arith, l, count)) in
-            record { verdict = rw (said_so, z); starts = rw (said_so, z, copied, e, count) }
+            record { verdict = rw (said_so, z); starts = rw (said_so, z, copied, count) }
+
+        -- however it is said how many are copied
+        pub back_copied : length j.sources ≤ length lent → {n : ℕ} → n ≡ length j.sources → {front : List ℕ} → front ≡ take n found
+            → Back (Ok tt) (front ++ drop n lent)
+        back_copied l e copied = rw e (back_starts l (rw e at copied))

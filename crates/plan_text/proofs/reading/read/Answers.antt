@@ -1,6 +1,6 @@
 -- The job, the text's length, its lines, the room.
 use Rattle.std.proofs.Common.{◌≡◌, Err, [], sym, ◌∙◌, rules, arith, length-take-le}
-use Rattle.plan_text.proofs.ReadingBack.{back_no_job, back_too_long, back_lines_refused, found_room, back_no_room, back_starts}
+use Rattle.plan_text.proofs.ReadingBack.{back_no_job, back_too_long, back_lines_refused, found_room, back_no_room, back_copied}
 use Rattle.plan_text.proofs.reading.read.Goals as goal
 
 pub returns-in_err-tables : goal.returns-in_err-tables
@@ -33,5 +33,5 @@ copy_from_slice-requires c =
 
 pub returns : goal.returns
 returns c =
-    back_starts _ _ _ c.in_ok-tables.ensures c.if-text-gt-TEXT.false _ c.in_ok-found.ensures c.if-packets-starts.false
+    back_copied _ _ _ c.in_ok-tables.ensures c.if-text-gt-TEXT.false _ c.in_ok-found.ensures c.if-packets-starts.false
     (omega arith) c.copy_from_slice.ensures.after
