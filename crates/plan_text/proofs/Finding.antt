@@ -3,7 +3,7 @@ use mathlib.Core.Path.{◌≡◌, refl, sym, ap, ◌∙◌}
 use mathlib.Core.List.{List, [], ◌∷◌}
 use Prim.Native.Nat.{ℕ, ◌≤◌}
 use native.Mathlib.Omega.{arith}
-use lib.ListN.{length, take, drop, replicate, length-map, length-replicate}
+use lib.ListN.{length, take, drop, length-map}
 use lib.Seq.{sets, length-sets, sets-eq, take-append-le, take_all}
 use borrow.Author.Tests.{eq-eqb, ne_eqb}
 use Rattle.std.proofs.Common.{Ok, Err}
@@ -28,17 +28,13 @@ use Rattle.plan_text.proofs.LinesTold.{RowsTold, rows_told, rows_refused, totals
 
 -- ---- rows that were stored
 
--- a list with room for the packets of every job
-abbrev pub room : List ℕ
-room = replicate packets_most 0
-
 -- what is stored from the first place on stands there
 stored_front : (xs lent : List ℕ) {n : ℕ} → n ≡ length xs → n ≤ length lent → take n (sets lent 0 xs) ≡ xs
 stored_front xs lent e l =
     rw (e, sets-eq xs lent 0 (omega (arith, e, l))) (take-append-le (length xs) xs _ (omega arith) ∙ take_all (length xs) xs (omega arith))
 
-stored_long : (xs : List ℕ) {after : List ℕ} → after ≡ sets room 0 xs → length after ≡ packets_most
-stored_long xs e = ap length e ∙ length-sets room 0 xs ∙ length-replicate {A = ℕ} packets_most 0
+stored_long : (xs lent : List ℕ) {after : List ℕ} → length lent ≡ packets_most → after ≡ sets lent 0 xs → length after ≡ packets_most
+stored_long xs lent l e = ap length e ∙ length-sets lent 0 xs ∙ l
 
 rows_of_both : (rows : List Row) → rows_in (starts_of rows) (ends_of rows) ≡ rows
 unfolding rows_in
@@ -74,17 +70,16 @@ module _ (j : Job) (plan : List ℕ) (short : length plan ≤ text_most) where
         lines_followed : lines_say j plan ≡ followed j rows_here (three_told t)
         lines_followed = last_then ∙ rw (totals_by_rules plan all.next told.line_below totals_are)
 
-        -- the rows were stored
-        module _ (few : all.count ≤ packets_most) (starts ends : List ℕ) (starts_are : starts ≡ starts_stored room rows_here)
-            (ends_are : ends ≡ ends_stored room rows_here) where
-          in_room : all.count ≤ length room
-          in_room = omega (arith, length-replicate {A = ℕ} packets_most 0)
-
+        -- the rows were stored, in lists with room for the packets of every job
+        module _ (few : all.count ≤ packets_most) (lent rest : List ℕ) (lent_long : length lent ≡ packets_most) (rest_long : length rest ≡ packets_most)
+            (starts ends : List ℕ) (starts_are : starts ≡ starts_stored lent rows_here) (ends_are : ends ≡ ends_stored rest rows_here) where
           starts_stand : take all.count starts ≡ starts_of rows_here
-          starts_stand = rw starts_are (stored_front (starts_of rows_here) room (sym (length-map rows_here (λ r. r.start) ∙ told.counted)) in_room)
+          starts_stand =
+              rw starts_are (stored_front (starts_of rows_here) lent (sym (length-map rows_here (λ r. r.start) ∙ told.counted)) (omega (arith, few, lent_long)))
 
           ends_stand : take all.count ends ≡ ends_of rows_here
-          ends_stand = rw ends_are (stored_front (ends_of rows_here) room (sym (length-map rows_here (λ r. r.end) ∙ told.counted)) in_room)
+          ends_stand =
+              rw ends_are (stored_front (ends_of rows_here) rest (sym (length-map rows_here (λ r. r.end) ∙ told.counted)) (omega (arith, few, rest_long)))
 
           -- what was looked at is what the rows say
           abbrev Looked : Outcome Unit → Type 0
@@ -111,9 +106,9 @@ module _ (j : Job) (t : tables j ≡ fine) {n : ℕ} (e : n ≡ length j.sources
   pub packets_fit : n ≤ packets_most
   packets_fit = omega (arith, e, (accepted_job j t).few_packets)
 
-  module _ (plan : List ℕ) (c : Lines) {after : List ℕ} where
-    pub starts_fit : after ≡ starts_stored room (rows_found plan c) → n ≤ length after
-    starts_fit s = omega (arith, packets_fit, stored_long (starts_of (rows_found plan c)) s)
+  module _ (plan : List ℕ) (c : Lines) (lent : List ℕ) (long : length lent ≡ packets_most) {after : List ℕ} where
+    pub starts_fit : after ≡ starts_stored lent (rows_found plan c) → n ≤ length after
+    starts_fit s = omega (arith, packets_fit, stored_long (starts_of (rows_found plan c)) lent long s)
 
-    pub ends_fit : after ≡ ends_stored room (rows_found plan c) → n ≤ length after
-    ends_fit s = omega (arith, packets_fit, stored_long (ends_of (rows_found plan c)) s)
+    pub ends_fit : after ≡ ends_stored lent (rows_found plan c) → n ≤ length after
+    ends_fit s = omega (arith, packets_fit, stored_long (ends_of (rows_found plan c)) lent long s)

@@ -50,24 +50,22 @@ module _ {hops before loads : List ℕ} {i : ℕ} (w : CountedTo hops before loa
   pub counted_le : (link : ℕ) → get_or loads link 0 ≤ total before + i
   counted_le link = omega (arith, le_total loads link)
 
+  pub counted_turn : {link : ℕ} → i < length hops → link ≡ get_or hops i 0 → link < length loads
+      → CountedTo hops before (set loads link (get_or loads link 0 + 1)) (i + 1)
+  counted_turn {link} h e l = record {
+    near = omega arith;
+    long = length-set loads link _ ∙ w.long;
+    sum = omega (arith, one-more-total loads link l);
+    each = λ other. omega (arith, one-more_at loads link other l, rw (from_place hops i, ← e) at (w.each other));
+  }
+
   -- the links that are gone over are the hops
-  module _ {links : List ℕ} (h : i < length links) {link : ℕ} (e : link ≡ get_or links i 0) (below : Below hops (length before)) (same : links ≡ hops) where
-    more : i < length hops
-    more = rw (← same) h
-
-    counted : link ≡ get_or hops i 0
-    counted = rw (← same) e
-
-    has_load : link < length loads
-    has_load = omega (arith, w.long, counted, below i more)
-
-    pub counted_turn : CountedTo hops before (set loads link (get_or loads link 0 + 1)) (i + 1)
-    counted_turn = record {
-      near = omega (arith, more);
-      long = length-set loads link _ ∙ w.long;
-      sum = omega (arith, one-more-total loads link has_load, w.sum);
-      each = λ other. omega (arith, one-more_at loads link other has_load, rw (from_place hops i more, ← counted) at (w.each other));
-    }
+  pub counted_over : {links : List ℕ} {link : ℕ} → i < length links → link ≡ get_or links i 0 → Below hops (length before) → links ≡ hops
+      → CountedTo hops before (set loads link (get_or loads link 0 + 1)) (i + 1)
+  counted_over {link = link} h e below same =
+      let more : i < length hops = rw (← same) h in
+      let counted : link ≡ get_or hops i 0 = rw (← same) e in
+      counted_turn more counted (omega (arith, w.long, counted, below i more))
 
   pub counted_done : {links : List ℕ} → length links ≤ i → links ≡ hops → Counted hops before loads
   counted_done all same link = omega (arith, rw (drop_of_length-le hops {i = i} (rw (← same) all)) at (w.each link))
