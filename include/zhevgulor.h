@@ -71,8 +71,8 @@
  * inputs, as long as nobody writes to the lists of a call while it runs.
  *
  * STACK. All working space is on the caller's stack. Measured over the calls of the tests, with the frame of the calling function,
- * zhevgulor_check_texts took up to 113,504 bytes, zhevgulor_plan up to 107,176, zhevgulor_check up to 58,112, zhevgulor_starts up to
- * 51,704, zhevgulor_read_plan up to 17,136, zhevgulor_plan_text up to 9,136, and the others less than 900. tests/run measures anew and
+ * zhevgulor_check_texts took up to 113,458 bytes, zhevgulor_plan up to 107,176, zhevgulor_check up to 58,066, zhevgulor_starts up to
+ * 51,704, zhevgulor_read_plan up to 13,010, zhevgulor_plan_text up to 9,136, and the others less than 900. tests/run measures anew and
  * fails if a call takes more than ZHEVGULOR_STACK_BYTES, which leaves some 17,000 bytes above that.
  *
  * TIME. No call waits for anything, and none takes long. The time of zhevgulor_plan and zhevgulor_starts grows with the bytes or
